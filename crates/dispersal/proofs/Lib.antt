@@ -1,0 +1,4 @@
+pub mod Mirror
+pub mod Register
+pub mod Streams
+pub mod Twice

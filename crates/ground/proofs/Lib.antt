@@ -1,0 +1,5 @@
+pub mod Answers
+pub mod Chunks
+pub mod Floats
+pub mod Front
+pub mod Xor

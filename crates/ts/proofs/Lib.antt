@@ -1,0 +1,5 @@
+pub mod Packets
+pub mod Numbers
+pub mod Stuffing
+pub mod Dispersal
+pub mod Theorems

@@ -1,0 +1,70 @@
+-- A packet's length, the part of a payload that becomes one, and the part of a packet that is its payload. Assumes nothing.
+use mathlib.Core.Path.{_≡_, refl, sym, ap, ap₂, _∙_}
+use mathlib.Core.List.{List, [], _∷_, _++_, append-nil}
+use Prim.Native.Nat.{ℕ, zero, suc, _+_, _-_, _*_, _≤_, min}
+use native.Mathlib.Nat.{suc-min-suc, zero-min}
+use native.Mathlib.Omega.{arith}
+use lib.ListN.{length, take, drop, set, replicate, length-append, length-take, length-drop, length-replicate, drop-of-length-le}
+use lib.Seq.{drop-drop, take-nil, take-all, take-at, drop-at}
+use borrow.Rule.Slice.PartMut.{midOf, putMid}
+use Rattle.ground.proofs.Chunks.{Each}
+use Rattle.ts.specs.Packets.{padded, packet}
+
+pub padded-length : (c : List ℕ) → length c ≤ 187 → length (padded c) ≡ 187
+unfolding padded
+padded-length c h = simp (length-append, length-replicate) (omega arith)
+
+pub packet-length : (c : List ℕ) → length c ≤ 187 → length (packet c) ≡ 188
+unfolding packet
+packet-length c h = ap suc (padded-length c h)
+
+-- each part of a payload becomes 188 bytes
+pub packets-each : (n : ℕ) (s : List ℕ) → Each (λ (i : ℕ) (c : List ℕ). packet c) 187 188 n 0 s
+packets-each n s j l = packet-length (take 187 (drop (187 * j) s)) (simp length-take (omega arith))
+
+-- each packet leaves 187 bytes
+pub payloads-each : (n : ℕ) (s : List ℕ) → 188 * n ≤ length s → Each (λ (i : ℕ) (p : List ℕ). drop 1 p) 188 187 n 0 s
+payloads-each n s h j l = simp (length-drop, length-take) (omega arith)
+
+take-min : (n : ℕ) (l : List ℕ) → take (min n (length l)) l ≡ take n l
+take-min zero l = ap (λ (k : ℕ). take k l) (zero-min (length l))
+take-min (suc n) [] = take-nil (min (suc n) 0)
+take-min (suc n) (x ∷ l) = ap (λ (k : ℕ). take k (x ∷ l)) (suc-min-suc n (length l)) ∙ ap (λ (r : List ℕ). x ∷ r) (take-min n l)
+
+-- the part that the code lends, up to the payload's end, is the part of 187 bytes or what is left
+pub lent-chunk : (s : List ℕ) (from to : ℕ) → from ≤ length s → to ≡ from + min 187 (length s - from) → take (to - from) (drop from s) ≡ take 187 (drop from s)
+lent-chunk s from to h e =
+    let l : length (drop from s) ≡ length s - from = length-drop from s in
+    let k : to - from ≡ min 187 (length s - from) = omega arith in
+    ap (λ (x : ℕ). take x (drop from s)) (k ∙ ap (min 187) (sym l)) ∙ take-min 187 (drop from s)
+
+drop-take : (n : ℕ) (l : List ℕ) → drop 1 (take (suc n) l) ≡ take n (drop 1 l)
+drop-take zero [] = refl
+drop-take (suc n) [] = refl
+drop-take n (x ∷ l) = refl
+
+-- the part that the code lends behind a packet's first byte is the packet without it
+pub lent-payload : (s : List ℕ) (i m : ℕ) → m ≡ 187 → take m (drop (188 * i + 1) s) ≡ drop 1 (take 188 (drop (188 * i) s))
+lent-payload s i m em =
+    ap (λ (x : ℕ). take x (drop (188 * i + 1) s)) em ∙ ap (take 187) (sym (drop-drop 1 (188 * i) s)) ∙ sym (drop-take 187 (drop (188 * i) s))
+
+-- the payload was copied to the front of a packet's tail, and zeros were put behind it
+pub payload-put : (c tail t u : List ℕ) (m : ℕ) → length c ≤ 187 → length tail ≡ 187 → t ≡ c → m ≡ 187 - length c
+    → u ≡ replicate (length (midOf (length c) m (t ++ drop (length c) tail))) 0 → putMid (length c) m (t ++ drop (length c) tail) u ≡ padded c
+unfolding padded
+payload-put c tail t u m h l et em eu =
+    let z : List ℕ = drop (length c) tail in
+    let lz : length z ≡ 187 - length c = length-drop (length c) tail ∙ ap (λ (x : ℕ). x - length c) l in
+    let a : midOf (length c) m (t ++ z) ≡ z =
+    ap (λ (x : List ℕ). midOf (length c) m (x ++ z)) et ∙ ap (take m) (drop-at c z (length c) refl) ∙ take-all m z (omega arith) in
+    let b : drop m (drop (length c) (t ++ z)) ≡ [] =
+    ap (λ (x : List ℕ). drop m (drop (length c) (x ++ z))) et ∙ ap (drop m) (drop-at c z (length c) refl) ∙ drop-of-length-le z {i = m} (omega arith) in
+    ap₂ (λ (x y : List ℕ). x ++ y) (ap (λ (x : List ℕ). take (length c) (x ++ z)) et ∙ take-at c z (length c) refl)
+    (ap₂ (λ (x y : List ℕ). x ++ y) (eu ∙ ap (λ (x : List ℕ). replicate (length x) 0) a ∙ ap (λ (x : ℕ). replicate x 0) lz) b ∙ append-nil (replicate (187 - length c) 0))
+
+-- the first byte was stored, and the tail lent behind it came back as the payload
+pub packet-put : (c p t : List ℕ) (n : ℕ) → length p ≡ 188 → n ≡ 187 → t ≡ padded c → putMid 1 n (set p 0 0x47) t ≡ packet c
+unfolding packet
+packet-put c [] t n l en et = absurd (omega arith)
+packet-put c (x ∷ p) t n l en et =
+    ap (λ (y : List ℕ). 0x47 ∷ y) (ap₂ (λ (y z : List ℕ). y ++ z) et (drop-of-length-le p {i = n} (omega arith)) ∙ append-nil (padded c))

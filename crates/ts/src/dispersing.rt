@@ -1,0 +1,59 @@
+// Energy dispersal, packet by packet, with the register's outputs of a group made before.
+ghost use mathlib.Core.Path.{_≡_};
+ghost use Prim.Native.Nat.{_%_, _<_};
+ghost use lib.Dec.{eqb};
+ghost use lib.ListN.{length, getD, set};
+ghost use Rattle.ground.specs.Answer.{pick};
+ghost use Rattle.dispersal.specs.Register.{start};
+ghost use Rattle.dispersal.specs.Inner.{stream};
+ghost use Rattle.ts.specs.Dispersal.{sync, dispersedPacket, dispersed};
+use super::TS_PACKET_LEN;
+use super::TS_PAYLOAD_LEN;
+
+// The packets of a group: at the first of them the register restarts.
+const TS_DISPERSAL_GROUP: usize = 8;
+
+// What the first byte of the packet at a place in its group is XORed with.
+fn sync_mask(place: usize) -> u8
+    ensures { λ r. ⌜ r ≡ pick (eqb place 0) 0xFF 0 ⌝ }
+{
+    if place == 0 {
+        return 0xFF;
+    }
+    0
+}
+
+// Flips the first byte of the packet at the first place of a group, and leaves the others'.
+fn put_sync(place: usize, packet: &mut [u8])
+    requires { ⌜ (place < 8) × (length (now packet) ≡ 188) ⌝ }
+    ensures { λ _. ⌜ now (packet .exit) ≡ set (now (packet .entry)) 0 (sync place (getD (now (packet .entry)) 0 0)) ⌝ }
+{
+    let mask = sync_mask(place);
+    packet[0] = packet[0] ^ mask;
+}
+
+// Disperses the packet at a place in its group.
+fn disperse_packet(place: usize, outputs: &[u8], packet: &mut [u8])
+    requires { ⌜ (place < 8) × (now outputs ≡ stream 1504 start) × (length (now packet) ≡ 188) ⌝ }
+    ensures { λ _. ⌜ now (packet .exit) ≡ dispersedPacket place (now (packet .entry)) ⌝ }
+{
+    let from = TS_PACKET_LEN * place;
+    let to = from + TS_PAYLOAD_LEN;
+    put_sync(place, packet);
+    dispersal::inner::whiten(&outputs[from..to], &mut packet[1..]);
+}
+
+// Disperses whole packets, each group of eight from the outputs' beginning.
+pub fn disperse_packets(outputs: &[u8], packets: &mut [u8])
+    requires { ⌜ (now outputs ≡ stream 1504 start) × (length (now packets) % 188 ≡ 0) ⌝ }
+    ensures { λ _. ⌜ now (packets .exit) ≡ dispersed (now (packets .entry)) ⌝ }
+{
+    let n = packets.len() / TS_PACKET_LEN;
+    let mut i = 0;
+    while i < n {
+        let base = TS_PACKET_LEN * i;
+        let end = base + TS_PACKET_LEN;
+        disperse_packet(i % TS_DISPERSAL_GROUP, outputs, &mut packets[base..end]);
+        i += 1;
+    }
+}

@@ -1,0 +1,86 @@
+// tsdisperse: makes transport packets of its standard input, whitens them, and writes them to standard output.
+ghost use mathlib.Core.Path.{_≡_};
+ghost use Prim.Native.Nat.{_≤_};
+ghost use lib.ListN.{length};
+use ground::Counted;
+use libc::STDIN_FILENO;
+use libc::STDOUT_FILENO;
+
+// What a turn left: go on, or stop.
+enum Next {
+    More,
+    End,
+}
+
+// Room for the payload of 32 groups of eight packets.
+fn payload_room() -> [u8; 47872]
+    ensures { λ r. ⌜ 47872 ≡ length r ⌝ }
+{
+    [0; 47872]
+}
+
+// Room for the packets of 32 groups of eight.
+fn packets_room() -> [u8; 48128]
+    ensures { λ r. ⌜ 48128 ≡ length r ⌝ }
+{
+    [0; 48128]
+}
+
+// Whitens packets from the beginning of a group on, writes them, and answers whether they were written.
+fn whiten_and_write(packets: &mut [u8]) -> bool {
+    ts::ts_energy_disperse(packets);
+    io::write_all(STDOUT_FILENO, packets)
+}
+
+// Makes packets of a payload, whitens and writes them, and answers whether they were written.
+fn put(payload: &[u8], out: &mut [u8]) -> bool {
+    let Counted::Count(n) = ts::ts_packetize(payload, out) else {
+        return false;
+    };
+    if out.len() < n {
+        return false;
+    }
+    whiten_and_write(&mut out[..n])
+}
+
+// Reads whole groups, or the input's last part, and writes their packets; an empty input makes one packet.
+fn turn(first: bool, input: &mut [u8], out: &mut [u8]) -> Next {
+    let n = io::read_full(STDIN_FILENO, input);
+    if n == 0 {
+        if !first {
+            return Next::End;
+        }
+    }
+    if !put(&input[..n], out) {
+        os::fail(b"output");
+        return Next::End;
+    }
+    if n < input.len() {
+        return Next::End;
+    }
+    Next::More
+}
+
+// Goes on until the input ends; it counts its turns down from a number that no run uses up.
+fn run(input: &mut [u8], out: &mut [u8]) {
+    let mut turns = u64::MAX;
+    let mut first = true;
+    while turns > 0 {
+        let next = turn(first, input, out);
+        first = false;
+        match next {
+            Next::More => {
+                turns -= 1;
+            }
+            Next::End => {
+                return;
+            }
+        }
+    }
+}
+
+fn main() {
+    let mut input = payload_room();
+    let mut out = packets_room();
+    run(&mut input, &mut out);
+}

@@ -1,0 +1,130 @@
+//! The comparison itself: cases for a function, both answers to each, and the smallest case where they differ.
+
+use crate::answer::Answer;
+use crate::random::Random;
+use std::io::Write;
+use std::time::{Duration, Instant};
+
+/// Who says what the answer is: orion-sdr, or document 01 where orion-sdr has no such refusal or panics.
+#[derive(Clone, Copy, PartialEq)]
+pub enum Source {
+    Orion,
+    Document,
+}
+
+/// The answer that the port owes, and who says so.
+pub struct Expected {
+    pub source: Source,
+    pub answer: Answer,
+}
+
+impl Expected {
+    /// An answer of orion-sdr's.
+    pub fn orion(answer: Answer) -> Self {
+        Self { source: Source::Orion, answer }
+    }
+
+    /// A refusal by document 01.
+    pub fn document(answer: Answer) -> Self {
+        Self { source: Source::Document, answer }
+    }
+}
+
+/// A function of the port that is compared.
+pub trait Subject {
+    /// One input, with all the memory that is lent.
+    type Case;
+    /// The function's name, as orion-sdr has it.
+    fn name(&self) -> &'static str;
+    /// Hands over each case in turn.
+    fn each_case(&self, random: &mut Random, compare: &mut dyn FnMut(Self::Case));
+    /// What the port answers.
+    fn ours(&self, case: &Self::Case) -> Answer;
+    /// What it owes.
+    fn expected(&self, case: &Self::Case) -> Expected;
+    /// Smaller cases to try where this one differs.
+    fn smaller<'a>(&'a self, case: &'a Self::Case) -> Box<dyn Iterator<Item = Self::Case> + 'a>;
+    /// The case in words.
+    fn show(&self, case: &Self::Case) -> String;
+}
+
+/// One run over all functions.
+pub struct Run {
+    seed: u64,
+    times: usize,
+    passed: usize,
+}
+
+/// The search for a smaller case ends after so long.
+const SHRINKING: Duration = Duration::from_secs(20);
+
+impl Run {
+    /// A run from a seed, with so many times the cases.
+    pub fn new(seed: u64, times: usize) -> Self {
+        println!("seed {seed}, times {times} (each function draws its cases from the seed mixed with its name)");
+        Self { seed, times, passed: 0 }
+    }
+
+    /// Compares one function; the first difference ends the program.
+    pub fn compare<S: Subject>(&mut self, subject: S) {
+        print!("{}: ", subject.name());
+        std::io::stdout().flush().ok();
+        let (mut by_orion, mut by_document) = (0, 0);
+        let mut random = Random::named(self.seed, subject.name());
+        for _ in 0..self.times {
+            subject.each_case(&mut random, &mut |case| match self.source(&subject, case) {
+                Source::Orion => by_orion += 1,
+                Source::Document => by_document += 1,
+            });
+        }
+        assert!(by_orion > 0, "no case of {} was compared with orion-sdr", subject.name());
+        let refusals = if by_document > 0 { format!(", {by_document} refusals, by document 01") } else { String::new() };
+        println!("{by_orion} compared with orion-sdr{refusals}: equal");
+        self.passed += 1;
+    }
+
+    /// Compares one case, and says who gave the answer to it; a difference ends the program.
+    fn source<S: Subject>(&self, subject: &S, case: S::Case) -> Source {
+        let expected = subject.expected(&case);
+        if subject.ours(&case) != expected.answer {
+            self.differs(subject, case);
+        }
+        expected.source
+    }
+
+    /// Prints the last line of a run without a difference.
+    pub fn finish(self) {
+        println!("{} passed, 0 failed", self.passed);
+    }
+
+    /// Prints the smallest case that shows a difference and both answers, and ends the program.
+    fn differs<S: Subject>(&self, subject: &S, case: S::Case) -> ! {
+        let (case, done) = smallest(subject, case);
+        let (expected, ours) = (subject.expected(&case), subject.ours(&case));
+        let other = if expected.source == Source::Orion { "orion-sdr" } else { "document 01" };
+        println!("DIFFERENT (seed {})", self.seed);
+        println!("  smallest input: {}", subject.show(&case));
+        if !done {
+            println!("  (the search for a smaller one was ended after {} s)", SHRINKING.as_secs());
+        }
+        println!("  {other}: {}", expected.answer);
+        println!("  ours: {ours}");
+        println!("  first difference ({other}, then ours): {}", expected.answer.difference(&ours));
+        println!("{} passed, 1 failed", self.passed);
+        std::process::exit(1);
+    }
+}
+
+/// A case that differs and has no smaller one that differs, and whether the search came to its end.
+fn smallest<S: Subject>(subject: &S, first: S::Case) -> (S::Case, bool) {
+    let end = Instant::now() + SHRINKING;
+    let mut least = first;
+    loop {
+        let differs = |case: &S::Case| subject.ours(case) != subject.expected(case).answer;
+        let next = subject.smaller(&least).take_while(|_| Instant::now() < end).find(differs);
+        match next {
+            Some(case) => least = case,
+            None => return (least, Instant::now() < end),
+        }
+    }
+}

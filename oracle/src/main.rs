@@ -1,0 +1,43 @@
+//! Compares the port's static library with orion-sdr's own Rust, module by module.
+//! A new module is a file with its `Subject`s and a `compare`, and two lines here; its C functions stand in salt.rs.
+
+mod answer;
+mod dispersal;
+mod harness;
+mod lent;
+mod random;
+mod salt;
+mod shrink;
+mod ts;
+
+/// The seed of a run that names none.
+const SEED: u64 = 300_744;
+
+fn main() {
+    let (seed, times) = arguments();
+    let mut run = harness::Run::new(seed, times);
+    ts::compare(&mut run);
+    dispersal::compare(&mut run);
+    run.finish();
+}
+
+/// The seed and how many times the cases are run, from the command line.
+fn arguments() -> (u64, usize) {
+    let (mut seed, mut times) = (SEED, 1);
+    let mut words = std::env::args().skip(1);
+    while let Some(word) = words.next() {
+        let value = words.next().and_then(|text| text.parse::<u64>().ok());
+        match (word.as_str(), value) {
+            ("--seed", Some(number)) => seed = number,
+            ("--times", Some(number)) if number > 0 => times = number as usize,
+            _ => usage(),
+        }
+    }
+    (seed, times)
+}
+
+/// Says what the command line may hold, and ends the program.
+fn usage() -> ! {
+    eprintln!("oracle/run [--seed N] [--times K]: N a whole number, K at least 1");
+    std::process::exit(2);
+}

@@ -1,0 +1,94 @@
+//! The port's C interface, and a safe function over each of its functions.
+
+/// A count, or a refusal: number 0 is accepted, else document 01's refusal number and the count is 0.
+#[repr(C)]
+#[derive(Clone, Copy)]
+pub struct SaltCounted {
+    pub number: u8,
+    pub count: usize,
+}
+
+/// The whitener's state, by value.
+#[repr(C)]
+#[derive(Clone, Copy)]
+pub struct SaltDvbTEnergyDispersal {
+    pub reg: u16,
+}
+
+/// What feeding into a lent output answers.
+#[repr(C)]
+pub struct SaltFed {
+    pub whitener: SaltDvbTEnergyDispersal,
+    pub answer: SaltCounted,
+}
+
+/// One transport packet.
+#[repr(C)]
+pub struct SaltPacket {
+    pub bytes: [u8; 188],
+}
+
+unsafe extern "C" {
+    fn salt_ts_packetize(payload: *const u8, payload_length: usize, out: *mut u8, out_length: usize) -> SaltCounted;
+    fn salt_ts_depacketize(packets: *const u8, packets_length: usize, out: *mut u8, out_length: usize) -> SaltCounted;
+    fn salt_ts_null_packet() -> SaltPacket;
+    fn salt_ts_stuff_null_packets(ts: *mut u8, ts_length: usize, used: usize, target: usize) -> SaltCounted;
+    fn salt_ts_energy_disperse(packets: *mut u8, packets_length: usize) -> SaltCounted;
+    fn salt_dvb_t_energy_dispersal_new() -> SaltDvbTEnergyDispersal;
+    fn salt_dvb_t_energy_dispersal_reset(whitener: SaltDvbTEnergyDispersal) -> SaltDvbTEnergyDispersal;
+    fn salt_dvb_t_energy_dispersal_advance_byte(whitener: SaltDvbTEnergyDispersal) -> SaltDvbTEnergyDispersal;
+    fn salt_dvb_t_energy_dispersal_feed_in_place(whitener: SaltDvbTEnergyDispersal, data: *mut u8, data_length: usize) -> SaltDvbTEnergyDispersal;
+    fn salt_dvb_t_energy_dispersal_feed(whitener: SaltDvbTEnergyDispersal, data: *const u8, data_length: usize, out: *mut u8, out_length: usize) -> SaltFed;
+}
+
+/// Packets around a payload, into a lent output.
+pub fn ts_packetize(payload: &[u8], out: &mut [u8]) -> SaltCounted {
+    unsafe { salt_ts_packetize(payload.as_ptr(), payload.len(), out.as_mut_ptr(), out.len()) }
+}
+
+/// The payload out of packets, into a lent output.
+pub fn ts_depacketize(packets: &[u8], out: &mut [u8]) -> SaltCounted {
+    unsafe { salt_ts_depacketize(packets.as_ptr(), packets.len(), out.as_mut_ptr(), out.len()) }
+}
+
+/// The null packet.
+pub fn ts_null_packet() -> [u8; 188] {
+    unsafe { salt_ts_null_packet() }.bytes
+}
+
+/// Null packets behind the bytes in use, up to a target in packets.
+pub fn ts_stuff_null_packets(ts: &mut [u8], used: usize, target: usize) -> SaltCounted {
+    unsafe { salt_ts_stuff_null_packets(ts.as_mut_ptr(), ts.len(), used, target) }
+}
+
+/// Energy dispersal over whole packets, in place.
+pub fn ts_energy_disperse(packets: &mut [u8]) -> SaltCounted {
+    unsafe { salt_ts_energy_disperse(packets.as_mut_ptr(), packets.len()) }
+}
+
+impl SaltDvbTEnergyDispersal {
+    /// A whitener at its start.
+    pub fn new() -> Self {
+        unsafe { salt_dvb_t_energy_dispersal_new() }
+    }
+
+    /// The whitener at its start again.
+    pub fn reset(self) -> Self {
+        unsafe { salt_dvb_t_energy_dispersal_reset(self) }
+    }
+
+    /// The whitener eight steps on.
+    pub fn advance_byte(self) -> Self {
+        unsafe { salt_dvb_t_energy_dispersal_advance_byte(self) }
+    }
+
+    /// Whitens bytes in place, and gives the whitener behind them.
+    pub fn feed_in_place(self, data: &mut [u8]) -> Self {
+        unsafe { salt_dvb_t_energy_dispersal_feed_in_place(self, data.as_mut_ptr(), data.len()) }
+    }
+
+    /// Whitens bytes into a lent output, and gives the whitener behind them.
+    pub fn feed(self, data: &[u8], out: &mut [u8]) -> SaltFed {
+        unsafe { salt_dvb_t_energy_dispersal_feed(self, data.as_ptr(), data.len(), out.as_mut_ptr(), out.len()) }
+    }
+}

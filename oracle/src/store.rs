@@ -1,0 +1,174 @@
+//! Writes stored answers of orion-sdr's for the replay program: FUNCTION NUMBER INPUT OUTPUT, one line each (README.md).
+
+#[allow(dead_code)]
+mod random;
+
+use orion_sdr::waveform::dvb_t::DvbTEnergyDispersal;
+use orion_sdr::waveform::dvb_t_ts as orion;
+use random::Random;
+
+/// The seed of the stored inputs; the same file comes of it at every run.
+const SEED: u64 = 1_504;
+/// Bytes of a packet.
+const PACKET: usize = 188;
+
+fn main() {
+    let file = std::env::args().nth(1).expect("store FILE");
+    let mut lines = Lines { random: Random::new(SEED), text: String::new() };
+    packetize(&mut lines);
+    depacketize(&mut lines);
+    null(&mut lines);
+    stuff(&mut lines);
+    disperse(&mut lines);
+    feed(&mut lines);
+    assert!(lines.text.len() < 250_000, "the file is too large");
+    std::fs::write(&file, &lines.text).expect("the stored answers can be written");
+    println!("{} lines, {} of them with a turned bit, {} bytes", lines.count(""), lines.count("~"), lines.text.len());
+}
+
+/// The lines so far, and where random inputs come from.
+struct Lines {
+    random: Random,
+    text: String,
+}
+
+impl Lines {
+    /// Adds an answer as orion-sdr gave it; None is `!1`.
+    fn answer(&mut self, function: &str, number: usize, input: &[u8], output: Option<&[u8]>) {
+        let output = output.map_or("!1".to_string(), hexadecimal);
+        self.line(format!("{function} {number} {} {output}", hexadecimal(input)));
+    }
+
+    /// Adds an answer with one bit turned, which the replay must call different.
+    fn turned(&mut self, function: &str, number: usize, input: &[u8], output: &[u8], bit: usize) {
+        let mut wrong = output.to_vec();
+        wrong[bit / 8] ^= 0x80 >> (bit % 8);
+        self.line(format!("~{function} {number} {} {}", hexadecimal(input), hexadecimal(&wrong)));
+    }
+
+    /// Adds a line that keeps the sizes which the replay can hold.
+    fn line(&mut self, line: String) {
+        let fields: Vec<&str> = line.split(' ').collect();
+        assert!(fields.len() == 4 && fields[2].len() <= 4000 && fields[3].len() <= 6000 && line.len() <= 12_000, "a line is too long");
+        self.text.push_str(&line);
+        self.text.push('\n');
+    }
+
+    /// How many lines begin so.
+    fn count(&self, beginning: &str) -> usize {
+        self.text.lines().filter(|line| line.starts_with(beginning)).count()
+    }
+}
+
+/// Bytes as lower-case hexadecimal digits, `-` for none.
+fn hexadecimal(bytes: &[u8]) -> String {
+    if bytes.is_empty() { "-".to_string() } else { bytes.iter().map(|byte| format!("{byte:02x}")).collect() }
+}
+
+/// Payloads around whole packets, of zeros, of ones and of sync bytes.
+fn packetize(lines: &mut Lines) {
+    let lengths = [0, 1, 2, 100, 185, 186, 187, 188, 189, 373, 374, 375, 376, 561, 562, 935, 1496, 2000];
+    let mut payloads: Vec<Vec<u8>> = lengths.iter().map(|length| lines.random.bytes(*length)).collect();
+    payloads.extend([vec![0; 5], vec![0xFF; 187], vec![0x47; 188]]);
+    for payload in payloads {
+        lines.answer("packetize", 0, &payload, Some(&orion::ts_packetize(&payload)));
+    }
+    for (length, bit) in [(0, 8 * PACKET - 1), (188, 8 * PACKET)] {
+        let payload = lines.random.bytes(length);
+        lines.turned("packetize", 0, &payload, &orion::ts_packetize(&payload), bit);
+    }
+}
+
+/// Whole packets with any first byte, one that packetizing made, and lengths that are refused.
+fn depacketize(lines: &mut Lines) {
+    for length in [0, 1, 187, 189, 375, 377, 1503, 2000] {
+        let packets = lines.random.bytes(length);
+        assert!(orion::ts_depacketize(&packets).is_none());
+        lines.answer("depacketize", 0, &packets, None);
+    }
+    let mut inputs: Vec<Vec<u8>> = [1, 2, 3, 4, 7, 8, 10].iter().map(|packets| lines.random.bytes(packets * PACKET)).collect();
+    inputs.push(orion::ts_packetize(&lines.random.bytes(300)));
+    for packets in inputs {
+        let payload = orion::ts_depacketize(&packets).expect("whole packets");
+        lines.answer("depacketize", 0, &packets, Some(&payload));
+    }
+    for (count, bit) in [(1, 0), (3, 8 * 3 * 187 - 1)] {
+        let packets = lines.random.bytes(count * PACKET);
+        let payload = orion::ts_depacketize(&packets).expect("whole packets");
+        lines.turned("depacketize", 0, &packets, &payload, bit);
+    }
+}
+
+/// The null packet, and two that are not.
+fn null(lines: &mut Lines) {
+    let packet = orion::ts_null_packet();
+    lines.answer("null", 0, &[], Some(&packet));
+    lines.turned("null", 0, &[], &packet, 8 * 3 + 7);
+    lines.turned("null", 0, &[], &packet, 8 * PACKET - 1);
+}
+
+/// Targets below, at and above what is there.
+fn stuff(lines: &mut Lines) {
+    let pairs = [(0, 0), (0, 1), (0, 2), (0, 15), (1, 0), (1, 1), (1, 2), (1, 5), (2, 1), (2, 2), (2, 3), (3, 1), (3, 8), (4, 4), (5, 12), (9, 3), (10, 11)];
+    for (have, target) in pairs {
+        let packets = lines.random.bytes(have * PACKET);
+        lines.answer("stuff", target, &packets, Some(&stuffed(&packets, target)));
+    }
+    for (have, target, bit) in [(1, 3, 8 * 2 * PACKET), (2, 1, 8 * 2 * PACKET - 1)] {
+        let packets = lines.random.bytes(have * PACKET);
+        lines.turned("stuff", target, &packets, &stuffed(&packets, target), bit);
+    }
+}
+
+/// Packets with null packets behind them, up to a target.
+fn stuffed(packets: &[u8], target: usize) -> Vec<u8> {
+    let mut stream = packets.to_vec();
+    orion::ts_stuff_null_packets(&mut stream, target);
+    stream
+}
+
+/// 0 to 10 packets of random bytes, zeros over a group's end, packets with sync bytes, and packets that are undone.
+fn disperse(lines: &mut Lines) {
+    let mut inputs: Vec<Vec<u8>> = (0..=10).map(|packets| lines.random.bytes(packets * PACKET)).collect();
+    inputs.push(vec![0; 9 * PACKET]);
+    inputs.push(orion::ts_packetize(&lines.random.bytes(500)));
+    inputs.push(dispersed(&inputs[2]));
+    for packets in inputs {
+        lines.answer("disperse", 0, &packets, Some(&dispersed(&packets)));
+    }
+    for (count, bit) in [(1, 0), (2, 8 * PACKET), (9, 8 * (8 * PACKET + 1))] {
+        let packets = lines.random.bytes(count * PACKET);
+        lines.turned("disperse", 0, &packets, &dispersed(&packets), bit);
+    }
+}
+
+/// Packets after dispersal.
+fn dispersed(packets: &[u8]) -> Vec<u8> {
+    let mut stream = packets.to_vec();
+    orion::ts_energy_disperse(&mut stream);
+    stream
+}
+
+/// Bytes fed after so many bytes were passed over, up to the register's whole round of 32,767.
+fn feed(lines: &mut Lines) {
+    for length in [0, 1, 2, 3, 7, 8, 9, 15, 16, 17, 63, 64, 65, 187, 188, 500, 1500] {
+        let bytes = lines.random.bytes(length);
+        lines.answer("feed", 0, &bytes, Some(&fed(0, &bytes)));
+    }
+    for before in [1, 2, 3, 7, 8, 9, 187, 188, 1000, 1503, 4096, 32_766, 32_767, 32_768] {
+        let length = lines.random.between(1, 80);
+        let bytes = lines.random.bytes(length);
+        lines.answer("feed", before, &bytes, Some(&fed(before, &bytes)));
+    }
+    for (before, length, bit) in [(0, 1, 7), (5, 40, 0)] {
+        let bytes = lines.random.bytes(length);
+        lines.turned("feed", before, &bytes, &fed(before, &bytes), bit);
+    }
+}
+
+/// Bytes whitened after so many bytes were passed over.
+fn fed(before: usize, bytes: &[u8]) -> Vec<u8> {
+    let mut whitener = DvbTEnergyDispersal::new();
+    (0..before).for_each(|_| whitener.advance_byte());
+    whitener.feed(bytes)
+}
