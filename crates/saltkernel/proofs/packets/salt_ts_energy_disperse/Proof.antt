@@ -1,8 +1,8 @@
--- `saltkernel::salt_ts_energy_disperse` meets its contract: the numbers say what the library function answers. Assumes nothing.
+-- `saltkernel::packets::salt_ts_energy_disperse` meets its contract: the numbers say what the library function answers. Assumes nothing.
 use Rattle.saltkernel.proofs.Numbers.{says-equal}
 use borrow.Author.Needs.{needs}
-use Rattle.saltkernel.proofs.salt_ts_energy_disperse.Statement.{statement}
-use Rattle.saltkernel.proofs.salt_ts_energy_disperse.Tie as tie
+use Rattle.saltkernel.proofs.packets.salt_ts_energy_disperse.Statement.{statement}
+use Rattle.saltkernel.proofs.packets.salt_ts_energy_disperse.Tie as tie
 
 ts-energy-disperse-requires : tie.Need-ts-energy-disperse-requires
 ts-energy-disperse-requires c κs = search needs

@@ -1,8 +1,8 @@
--- `saltkernel::salt_dvb_t_energy_dispersal_feed` meets its contract: the numbers say what the library function answers. Assumes nothing.
+-- `saltkernel::whitener::salt_dvb_t_energy_dispersal_feed` meets its contract: the numbers say what the library function answers. Assumes nothing.
 use Rattle.saltkernel.proofs.Numbers.{says-equal}
 use borrow.Author.Needs.{needs}
-use Rattle.saltkernel.proofs.salt_dvb_t_energy_dispersal_feed.Statement.{statement}
-use Rattle.saltkernel.proofs.salt_dvb_t_energy_dispersal_feed.Tie as tie
+use Rattle.saltkernel.proofs.whitener.salt_dvb_t_energy_dispersal_feed.Statement.{statement}
+use Rattle.saltkernel.proofs.whitener.salt_dvb_t_energy_dispersal_feed.Tie as tie
 
 feed-requires : tie.Need-feed-requires
 feed-requires c κs = search needs

@@ -1,8 +1,8 @@
--- `saltkernel::salt_ts_packetize` meets its contract: the numbers say what the library function answers. Assumes nothing.
+-- `saltkernel::packets::salt_ts_packetize` meets its contract: the numbers say what the library function answers. Assumes nothing.
 use Rattle.saltkernel.proofs.Numbers.{says-equal}
 use borrow.Author.Needs.{needs}
-use Rattle.saltkernel.proofs.salt_ts_packetize.Statement.{statement}
-use Rattle.saltkernel.proofs.salt_ts_packetize.Tie as tie
+use Rattle.saltkernel.proofs.packets.salt_ts_packetize.Statement.{statement}
+use Rattle.saltkernel.proofs.packets.salt_ts_packetize.Tie as tie
 
 ts-packetize-requires : tie.Need-ts-packetize-requires
 ts-packetize-requires c κs = search needs

@@ -1,8 +1,8 @@
--- `saltkernel::salt_ts_stuff_null_packets` meets its contract: the numbers say what the library function answers. Assumes nothing.
+-- `saltkernel::packets::salt_ts_stuff_null_packets` meets its contract: the numbers say what the library function answers. Assumes nothing.
 use Rattle.saltkernel.proofs.Numbers.{says-equal}
 use borrow.Author.Needs.{needs}
-use Rattle.saltkernel.proofs.salt_ts_stuff_null_packets.Statement.{statement}
-use Rattle.saltkernel.proofs.salt_ts_stuff_null_packets.Tie as tie
+use Rattle.saltkernel.proofs.packets.salt_ts_stuff_null_packets.Statement.{statement}
+use Rattle.saltkernel.proofs.packets.salt_ts_stuff_null_packets.Tie as tie
 
 ts-stuff-null-packets-requires : tie.Need-ts-stuff-null-packets-requires
 ts-stuff-null-packets-requires c κs = search needs
