@@ -1,5 +1,6 @@
 //! Answers as the two sides give them: named parts that are compared one by one.
 
+use crate::points::pattern;
 use std::fmt;
 
 /// One part of an answer; a later module adds its own kind of value here.
@@ -7,6 +8,8 @@ use std::fmt;
 pub enum Value {
     Number(u64),
     Bytes(Vec<u8>),
+    /// Floats by their bits, every NaN as one.
+    Floats(Vec<u32>),
     Text(String),
 }
 
@@ -30,6 +33,11 @@ impl Answer {
     /// The answer with bytes more.
     pub fn bytes(self, name: &str, bytes: &[u8]) -> Self {
         self.with(name, Value::Bytes(bytes.to_vec()))
+    }
+
+    /// The answer with floats more.
+    pub fn floats(self, name: &str, floats: &[f32]) -> Self {
+        self.with(name, Value::Floats(floats.iter().copied().map(pattern).collect()))
     }
 
     /// The answer with what became of the memory that the call may not write.
@@ -71,6 +79,7 @@ impl fmt::Display for Value {
         match self {
             Value::Number(number) => write!(to, "{number}"),
             Value::Bytes(bytes) => write!(to, "{}", shown(bytes)),
+            Value::Floats(patterns) => write!(to, "{}", patterns.iter().map(|bits| float(*bits)).collect::<Vec<_>>().join(", ")),
             Value::Text(text) => write!(to, "{text}"),
         }
     }
@@ -78,13 +87,26 @@ impl fmt::Display for Value {
 
 /// Where two values of the same name differ.
 fn places(one: &Value, two: &Value) -> String {
-    let (Value::Bytes(one), Value::Bytes(two)) = (one, two) else {
-        return String::new();
+    let (one, two) = match (one, two) {
+        (Value::Bytes(one), Value::Bytes(two)) => (one, two),
+        (Value::Floats(one), Value::Floats(two)) => return values(one, two),
+        _ => return String::new(),
     };
     match one.iter().zip(two).position(|(a, b)| a != b) {
         Some(place) => format!(" at byte {place}: {:02x} and {:02x}", one[place], two[place]),
         None => format!(", the length: {} and {}", one.len(), two.len()),
     }
+}
+
+/// Where two lists of floats differ.
+fn values(one: &[u32], two: &[u32]) -> String {
+    let place = one.iter().zip(two).position(|(a, b)| a != b);
+    place.map_or(String::new(), |place| format!(" at value {place}: {} and {}", float(one[place]), float(two[place])))
+}
+
+/// A float's bits in hexadecimal, and its value.
+pub fn float(bits: u32) -> String {
+    format!("{bits:08x} ({:?})", f32::from_bits(bits))
 }
 
 /// At most so many runs of bytes are shown.

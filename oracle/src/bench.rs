@@ -1,30 +1,45 @@
 //! The port's speed against orion-sdr's, both built for release, measured in turn in one run.
 
 #[allow(dead_code)]
+mod points;
+#[allow(dead_code)]
+mod random;
+#[allow(dead_code)]
 mod salt;
 
+use num_complex::Complex32;
+use orion_sdr::waveform::dvb_t as gray;
 use orion_sdr::waveform::dvb_t::DvbTEnergyDispersal;
 use orion_sdr::waveform::dvb_t_ts as orion;
-use salt::SaltDvbTEnergyDispersal;
+use points::Points;
+use random::Random;
+use salt::{SaltCell, SaltDvbTEnergyDispersal};
 use std::hint::black_box;
 use std::time::Instant;
 
 /// Bytes of a packet.
 const PACKET: usize = 188;
 /// Each side's best of so many rounds counts.
-const ROUNDS: usize = 25;
+const ROUNDS: usize = 100;
 /// One measurement takes at least so many seconds.
-const SPAN: f64 = 0.008;
+const SPAN: f64 = 0.002;
+/// Points of a measurement's one round over them: the data carriers of four OFDM symbols.
+const POINTS: usize = 4 * 1512;
 
 fn main() {
-    let mut rows = rows();
+    let (mut bytes, mut calls) = (byte_rows(), call_rows());
     for _ in 0..ROUNDS {
-        rows.iter_mut().for_each(Row::measure);
+        bytes.iter_mut().chain(&mut calls).for_each(Row::measure);
     }
     println!("{:<28} {:>8} {:>15} {:>10} {:>10} {:>8} {:>7}", "function", "bytes", "orion-sdr MB/s", "ours MB/s", "copy MB/s", "ratio", "asked");
-    rows.iter().for_each(Row::print);
+    bytes.iter().for_each(Row::print);
+    println!("{:<28} {:>8} {:>15} {:>10} {:>10} {:>8} {:>7}", "function", "bits", "orion-sdr Mc/s", "ours Mc/s", "", "ratio", "asked");
+    calls.iter().for_each(Row::print);
     println!("Best of {ROUNDS} rounds in turn; ratio is ours by orion-sdr's, copy a plain copy of as many bytes: the limit.");
     println!("orion-sdr's ts_packetize and ts_depacketize allocate the Vec that they answer; ours write into a lent buffer.");
+    println!("Mc/s: million calls a second, on points as a receiver sees them. orion-sdr's dvb_t_demap_symbol and dvb_t_soft_llr allocate");
+    println!("the Vec that they answer, and one for each axis; ours write into a lent buffer and answer by value.");
+    let rows: Vec<Row> = bytes.into_iter().chain(calls).collect();
     let below = rows.iter().filter(|row| row.below()).count();
     let asked = rows.iter().filter(|row| row.asked.is_some()).count();
     println!("{} of {asked} asked ratios met", asked - below);
@@ -70,27 +85,34 @@ fn repeated(mut action: impl FnMut() + 'static) -> Action {
     Box::new(move |times| (0..times).for_each(|_| action()))
 }
 
-/// One line of the table.
+/// One line of a table: the bytes of a call or the bits of a group, and how many bytes or calls an action comes to.
 struct Row {
     name: &'static str,
-    bytes: usize,
+    size: usize,
+    amount: usize,
     asked: Option<f64>,
     orion: Side,
     ours: Side,
-    copy: Side,
+    copy: Option<Side>,
 }
 
 impl Row {
     /// A row over so many bytes, with the ratio that is asked for.
     fn new(name: &'static str, bytes: usize, asked: Option<f64>, orion: impl FnMut() + 'static, ours: impl FnMut() + 'static) -> Self {
-        Self { name, bytes, asked, orion: Side::new(orion), ours: Side::new(ours), copy: Side::new(copying(bytes)) }
+        let copy = Some(Side::new(copying(bytes)));
+        Self { name, size: bytes, amount: bytes, asked, orion: Side::new(orion), ours: Side::new(ours), copy }
+    }
+
+    /// A row over calls at a group size, `POINTS` of them in one action.
+    fn calls(name: &'static str, size: usize, asked: Option<f64>, orion: impl FnMut() + 'static, ours: impl FnMut() + 'static) -> Self {
+        Self { name, size, amount: POINTS, asked, orion: Side::new(orion), ours: Side::new(ours), copy: None }
     }
 
     /// Measures all sides once, in turn.
     fn measure(&mut self) {
         self.orion.measure();
         self.ours.measure();
-        self.copy.measure();
+        self.copy.iter_mut().for_each(Side::measure);
     }
 
     /// How many times as fast ours is.
@@ -105,18 +127,20 @@ impl Row {
 
     /// Prints the row.
     fn print(&self) {
-        let speed = |side: &Side| self.bytes as f64 / side.best / 1e6;
+        let digits = if self.copy.is_some() { 0 } else { 1 };
+        let speed = |side: &Side| format!("{:.digits$}", self.amount as f64 / side.best / 1e6);
+        let copy = self.copy.as_ref().map_or(String::new(), speed);
         let asked = self.asked.map_or("-".to_string(), |asked| asked.to_string());
         let mark = if self.below() { "  below" } else { "" };
         println!(
-            "{:<28} {:>8} {:>15.0} {:>10.0} {:>10.0} {:>8.2} {:>7}{mark}",
-            self.name, self.bytes, speed(&self.orion), speed(&self.ours), speed(&self.copy), self.ratio(), asked
+            "{:<28} {:>8} {:>15} {:>10} {copy:>10} {:>8.2} {:>7}{mark}",
+            self.name, self.size, speed(&self.orion), speed(&self.ours), self.ratio(), asked
         );
     }
 }
 
-/// All rows of the table.
-fn rows() -> Vec<Row> {
+/// The rows that count bytes.
+fn byte_rows() -> Vec<Row> {
     vec![
         disperse(1, None),
         disperse(8, Some(20.0)),
@@ -130,6 +154,21 @@ fn rows() -> Vec<Row> {
         stuff(20, 1000),
         feed_in_place(187),
         feed_in_place(15_040),
+    ]
+}
+
+/// The rows that count calls.
+fn call_rows() -> Vec<Row> {
+    vec![
+        map_symbol(2, None),
+        map_symbol(4, None),
+        map_symbol(6, Some(1.0)),
+        demap_symbol(2, None),
+        demap_symbol(4, None),
+        demap_symbol(6, Some(4.0)),
+        soft_llr(2, None),
+        soft_llr(4, None),
+        soft_llr(6, Some(4.0)),
     ]
 }
 
@@ -195,4 +234,56 @@ fn feed_in_place(bytes: usize) -> Row {
     let (mut their_state, mut our_state) = (DvbTEnergyDispersal::new(), SaltDvbTEnergyDispersal::new());
     let orion = move || their_state.feed_in_place(black_box(&mut theirs));
     Row::new("feed_in_place", bytes, None, orion, move || our_state = our_state.feed_in_place(black_box(&mut ours)))
+}
+
+/// Mapping random groups of so many bits.
+fn map_symbol(size: usize, asked: Option<f64>) -> Row {
+    let ours: Vec<u8> = Random::new(1).bytes(POINTS * size).iter().map(|byte| byte & 1).collect();
+    let theirs = ours.clone();
+    let orion = move || {
+        for bits in theirs.chunks_exact(size) {
+            black_box(gray::dvb_t_map_symbol(black_box(bits)));
+        }
+    };
+    Row::calls("dvb_t_map_symbol", size, asked, orion, move || {
+        for bits in ours.chunks_exact(size) {
+            black_box(salt::dvb_t_map_symbol(black_box(bits)));
+        }
+    })
+}
+
+/// Points of a constellation as a receiver sees them.
+fn received(size: usize) -> Vec<(f32, f32)> {
+    let (points, mut random) = (Points::new(size), Random::new(2));
+    (0..POINTS).map(|_| (points.received(&mut random), points.received(&mut random))).collect()
+}
+
+/// Hard demapping of received points.
+fn demap_symbol(size: usize, asked: Option<f64>) -> Row {
+    let (theirs, ours, mut out) = (received(size), received(size), vec![0; size]);
+    let orion = move || {
+        for (re, im) in &theirs {
+            drop(black_box(gray::dvb_t_demap_symbol(black_box(Complex32::new(*re, *im)), black_box(size))));
+        }
+    };
+    Row::calls("dvb_t_demap_symbol", size, asked, orion, move || {
+        for (re, im) in &ours {
+            black_box(salt::dvb_t_demap_symbol(black_box(SaltCell { re: *re, im: *im }), black_box(size), black_box(&mut out)));
+        }
+    })
+}
+
+/// Soft values of received points.
+fn soft_llr(size: usize, asked: Option<f64>) -> Row {
+    let (theirs, ours) = (received(size), received(size));
+    let orion = move || {
+        for (re, im) in &theirs {
+            drop(black_box(gray::dvb_t_soft_llr(black_box(Complex32::new(*re, *im)), black_box(size))));
+        }
+    };
+    Row::calls("dvb_t_soft_llr", size, asked, orion, move || {
+        for (re, im) in &ours {
+            black_box(salt::dvb_t_soft_llr(black_box(SaltCell { re: *re, im: *im }), black_box(size)));
+        }
+    })
 }

@@ -3,8 +3,10 @@
 
 mod answer;
 mod dispersal;
+mod gray;
 mod harness;
 mod lent;
+mod points;
 mod random;
 mod salt;
 mod shrink;
@@ -18,6 +20,7 @@ fn main() {
     let mut run = harness::Run::new(seed, times);
     ts::compare(&mut run);
     dispersal::compare(&mut run);
+    gray::compare(&mut run);
     run.finish();
 }
 

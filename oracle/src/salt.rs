@@ -28,6 +28,29 @@ pub struct SaltPacket {
     pub bytes: [u8; 188],
 }
 
+/// A point with its two coordinates.
+#[repr(C)]
+#[derive(Clone, Copy)]
+pub struct SaltCell {
+    pub re: f32,
+    pub im: f32,
+}
+
+/// What mapping answers: the point, or the refusal and a point of +0.0.
+#[repr(C)]
+pub struct SaltMapped {
+    pub number: u8,
+    pub point: SaltCell,
+}
+
+/// What soft demapping answers: two, four or six values and +0.0 behind them, or the refusal and +0.0 throughout.
+#[repr(C)]
+pub struct SaltSoft {
+    pub number: u8,
+    pub count: usize,
+    pub values: [f32; 6],
+}
+
 unsafe extern "C" {
     fn salt_ts_packetize(payload: *const u8, payload_length: usize, out: *mut u8, out_length: usize) -> SaltCounted;
     fn salt_ts_depacketize(packets: *const u8, packets_length: usize, out: *mut u8, out_length: usize) -> SaltCounted;
@@ -39,6 +62,9 @@ unsafe extern "C" {
     fn salt_dvb_t_energy_dispersal_advance_byte(whitener: SaltDvbTEnergyDispersal) -> SaltDvbTEnergyDispersal;
     fn salt_dvb_t_energy_dispersal_feed_in_place(whitener: SaltDvbTEnergyDispersal, data: *mut u8, data_length: usize) -> SaltDvbTEnergyDispersal;
     fn salt_dvb_t_energy_dispersal_feed(whitener: SaltDvbTEnergyDispersal, data: *const u8, data_length: usize, out: *mut u8, out_length: usize) -> SaltFed;
+    fn salt_dvb_t_map_symbol(bits: *const u8, bits_length: usize) -> SaltMapped;
+    fn salt_dvb_t_demap_symbol(sym: SaltCell, v: usize, out: *mut u8, out_length: usize) -> SaltCounted;
+    fn salt_dvb_t_soft_llr(sym: SaltCell, v: usize) -> SaltSoft;
 }
 
 /// Packets around a payload, into a lent output.
@@ -91,4 +117,19 @@ impl SaltDvbTEnergyDispersal {
     pub fn feed(self, data: &[u8], out: &mut [u8]) -> SaltFed {
         unsafe { salt_dvb_t_energy_dispersal_feed(self, data.as_ptr(), data.len(), out.as_mut_ptr(), out.len()) }
     }
+}
+
+/// The point of a group of bits.
+pub fn dvb_t_map_symbol(bits: &[u8]) -> SaltMapped {
+    unsafe { salt_dvb_t_map_symbol(bits.as_ptr(), bits.len()) }
+}
+
+/// The bits of the nearest point, into a lent output.
+pub fn dvb_t_demap_symbol(sym: SaltCell, v: usize, out: &mut [u8]) -> SaltCounted {
+    unsafe { salt_dvb_t_demap_symbol(sym, v, out.as_mut_ptr(), out.len()) }
+}
+
+/// The soft value of each bit.
+pub fn dvb_t_soft_llr(sym: SaltCell, v: usize) -> SaltSoft {
+    unsafe { salt_dvb_t_soft_llr(sym, v) }
 }

@@ -49,3 +49,12 @@ fn with(bytes: &[u8], place: usize, byte: u8) -> Vec<u8> {
     changed[place] = byte;
     changed
 }
+
+/// Floats below one: zero, one, then ever fewer of its low bits cleared, then single bits; each has a smaller bit pattern.
+pub fn floats(float: f32) -> impl Iterator<Item = f32> {
+    let bits = float.to_bits();
+    let plain = [0, 1f32.to_bits(), bits & 0x7fff_ffff].into_iter();
+    let shorter = (1..32).rev().map(move |low| bits >> low << low);
+    let cleared = (0..32).map(move |place| bits & !(1 << place));
+    plain.chain(shorter).chain(cleared).filter(move |less| *less < bits).map(f32::from_bits)
+}

@@ -1,10 +1,15 @@
 //! Writes stored answers of orion-sdr's for the replay program: FUNCTION NUMBER INPUT OUTPUT, one line each (README.md).
 
 #[allow(dead_code)]
+mod points;
+#[allow(dead_code)]
 mod random;
 
+use num_complex::Complex32;
+use orion_sdr::waveform::dvb_t as gray;
 use orion_sdr::waveform::dvb_t::DvbTEnergyDispersal;
 use orion_sdr::waveform::dvb_t_ts as orion;
+use points::{Points, SIZES, beside, groups, levels, midpoints, pattern};
 use random::Random;
 
 /// The seed of the stored inputs; the same file comes of it at every run.
@@ -21,6 +26,9 @@ fn main() {
     stuff(&mut lines);
     disperse(&mut lines);
     feed(&mut lines);
+    map(&mut lines);
+    demap(&mut lines);
+    soft(&mut lines);
     assert!(lines.text.len() < 250_000, "the file is too large");
     std::fs::write(&file, &lines.text).expect("the stored answers can be written");
     println!("{} lines, {} of them with a turned bit, {} bytes", lines.count(""), lines.count("~"), lines.text.len());
@@ -171,4 +179,91 @@ fn fed(before: usize, bytes: &[u8]) -> Vec<u8> {
     let mut whitener = DvbTEnergyDispersal::new();
     (0..before).for_each(|_| whitener.advance_byte());
     whitener.feed(bytes)
+}
+
+/// Floats as bytes, high ones first; every NaN as one where they are an answer.
+fn patterns(floats: &[f32], bits: fn(f32) -> u32) -> Vec<u8> {
+    floats.iter().flat_map(|float| bits(*float).to_be_bytes()).collect()
+}
+
+/// Adds floats with one bit turned such that the value isn't NaN before or after.
+fn turned_floats(lines: &mut Lines, function: &str, number: usize, input: &[u8], output: &[f32], bit: usize) {
+    let value = output[bit / 32];
+    let wrong = f32::from_bits(value.to_bits() ^ 0x8000_0000 >> (bit % 32));
+    assert!(!value.is_nan() && !wrong.is_nan(), "a turned bit that doesn't show");
+    lines.turned(function, number, input, &patterns(output, pattern), bit);
+}
+
+/// All groups, and lengths that are refused.
+fn map(lines: &mut Lines) {
+    let point = |bits: &[u8]| gray::dvb_t_map_symbol(bits).map(|point| [point.re, point.im]);
+    for bits in SIZES.into_iter().flat_map(groups) {
+        lines.answer("map", 0, &bits, point(&bits).map(|point| patterns(&point, pattern)).as_deref());
+    }
+    for length in [0, 1, 3, 5, 7, 8, 9] {
+        let bits: Vec<u8> = lines.random.bytes(length).iter().map(|byte| byte & 1).collect();
+        assert!(point(&bits).is_none());
+        lines.answer("map", 0, &bits, None);
+    }
+    for (bits, bit) in [(&[0, 1][..], 31), (&[1, 0, 0, 1], 32), (&[1, 0, 1, 0, 0, 1], 63), (&[0; 6], 0)] {
+        turned_floats(lines, "map", 0, bits, &point(bits).expect("a group's size"), bit);
+    }
+}
+
+/// Stored coordinates apart from any constellation: NaN, infinite, zero, subnormal, the largest, huge, and around the largest with a finite square.
+const FAR: [u32; 20] = [
+    0x7fc0_0000, 0xffc0_0000, 0x7f80_0001, 0xff92_3456, 0x7f80_0000, 0xff80_0000, 0x0000_0000, 0x8000_0000, 0x0000_0001, 0x807f_ffff, //
+    0x7f7f_ffff, 0xff7f_ffff, 0x4b80_0000, 0xcb80_0000, 0x4c00_0001, 0xd015_02f9, 0x5f7f_ffff, 0x5f80_0000, 0x60ad_78ec, 0xe0ad_78ec,
+];
+
+/// Some 40 points of a group size: the far coordinates, midpoints of neighbours with the floats beside them, levels and received ones, each as re and as im.
+fn cells(random: &mut Random, size: usize) -> Vec<[f32; 2]> {
+    let (levels, points) = (levels(size), Points::new(size));
+    let between = levels.windows(2).flat_map(midpoints).flat_map(|float| [-1, 0, 1].map(|units| beside(float, units)));
+    let mut floats: Vec<f32> = FAR.map(f32::from_bits).into_iter().chain(between).chain(levels.clone()).collect();
+    while floats.len() < 40 {
+        floats.push(points.received(random));
+    }
+    let others = floats.iter().cycle().skip(floats.len() / 2);
+    floats.iter().zip(others).map(|(re, im)| [*re, *im]).collect()
+}
+
+/// Adds what a function answers at a size that is refused, for each such size to 9.
+fn refused(lines: &mut Lines, function: &str, answers: impl Fn([f32; 2], usize) -> bool) {
+    for size in (0..=9).filter(|size| !SIZES.contains(size)) {
+        let cell = [Points::new(6).received(&mut lines.random), f32::NAN];
+        assert!(!answers(cell, size));
+        lines.answer(function, size, &patterns(&cell, f32::to_bits), None);
+    }
+}
+
+/// The points of each size, sizes that are refused, and exact points with a bit turned.
+fn demap(lines: &mut Lines) {
+    let bits = |[re, im]: [f32; 2], size| gray::dvb_t_demap_symbol(Complex32::new(re, im), size);
+    for size in SIZES {
+        for cell in cells(&mut lines.random, size) {
+            lines.answer("demap", size, &patterns(&cell, f32::to_bits), bits(cell, size).as_deref());
+        }
+    }
+    refused(lines, "demap", |cell, size| bits(cell, size).is_some());
+    for (size, cell, place) in [(2, [0.5, -0.0], 1), (4, [f32::NAN, 2f32.powi(30)], 2), (6, [-2f32.powi(30), 0.4], 0), (6, [0.1, -0.9], 5)] {
+        let right = bits(cell, size).expect("a group's size");
+        lines.turned("demap", size, &patterns(&cell, f32::to_bits), &right, 8 * place + 7);
+    }
+}
+
+/// The points of each size, sizes that are refused, and points with a bit turned: the last of a value, its sign, its exponent's last.
+fn soft(lines: &mut Lines) {
+    let values = |[re, im]: [f32; 2], size| gray::dvb_t_soft_llr(Complex32::new(re, im), size);
+    for size in SIZES {
+        for cell in cells(&mut lines.random, size) {
+            let right = values(cell, size).map(|values| patterns(&values, pattern));
+            lines.answer("soft", size, &patterns(&cell, f32::to_bits), right.as_deref());
+        }
+    }
+    refused(lines, "soft", |cell, size| values(cell, size).is_some());
+    for (size, cell, bit) in [(2, [0.5, -0.25], 31), (4, [f32::NAN, -0.3], 3 * 32), (6, [0.2, f32::INFINITY], 4 * 32 + 31), (6, [-0.7, 0.9], 5 * 32 + 8)] {
+        let right = values(cell, size).expect("a group's size");
+        turned_floats(lines, "soft", size, &patterns(&cell, f32::to_bits), &right, bit);
+    }
 }

@@ -2,11 +2,12 @@
 ghost use mathlib.Core.Path.{_≡_};
 ghost use Prim.Native.Nat.{_≤_};
 ghost use lib.ListN.{length};
+use crate::constellation;
 use dispersal::DvbTEnergyDispersal;
 use ground::Counted;
 
 // What stands where nothing may be written.
-const UNTOUCHED: u8 = 0xA5;
+pub const UNTOUCHED: u8 = 0xA5;
 
 // Whether the front of a slice is the output, and what is behind it is untouched.
 fn front_is(output: &[u8], slice: &[u8]) -> bool {
@@ -30,7 +31,7 @@ fn front_is(output: &[u8], slice: &[u8]) -> bool {
 }
 
 // Whether an answer is the refusal, or where there is none the count; and what is left in the slice.
-fn is_right(answer: Counted, refusal: u8, count: usize, output: &[u8], slice: &[u8]) -> bool {
+pub fn is_right(answer: Counted, refusal: u8, count: usize, output: &[u8], slice: &[u8]) -> bool {
     match answer {
         Counted::Count(n) => {
             if refusal != 0 {
@@ -133,6 +134,9 @@ pub fn is_met(function: usize, number: usize, input: &[u8], refusal: u8, output:
         3 => stuff(number, input, refusal, output, slice),
         4 => disperse(input, refusal, output, slice),
         5 => feed(number, input, output, slice),
+        6 => constellation::map(input, refusal, output),
+        7 => constellation::demap(number, input, refusal, output, slice),
+        8 => constellation::soft(number, input, refusal, output),
         _ => false,
     }
 }

@@ -104,7 +104,21 @@ fn put_bytes(text: &[u8], out: &mut [u8]) -> usize
     i
 }
 
-// The function that a name stands for, or 6.
+// The function of gray mapping that a name stands for, or 9.
+fn constellation_function_of(name: &[u8]) -> usize {
+    if check::same(name, b"map") {
+        return 6;
+    }
+    if check::same(name, b"demap") {
+        return 7;
+    }
+    if check::same(name, b"soft") {
+        return 8;
+    }
+    9
+}
+
+// The function that a name stands for, or 9.
 fn function_of(name: &[u8]) -> usize {
     if check::same(name, b"packetize") {
         return 0;
@@ -124,7 +138,7 @@ fn function_of(name: &[u8]) -> usize {
     if check::same(name, b"feed") {
         return 5;
     }
-    6
+    constellation_function_of(name)
 }
 
 // The refusal that an output field stands for, or 0.
@@ -219,7 +233,7 @@ pub fn replayed(text: &[u8], given: &mut [u8], wanted: &mut [u8]) -> Outcome {
 
 // The outcome of a line: a turned one has to be found different.
 fn outcome_of(function: usize, turned: bool, met: bool) -> Outcome {
-    if function == 6 {
+    if function == 9 {
         return Outcome::Wrong;
     }
     if turned {

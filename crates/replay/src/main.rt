@@ -6,11 +6,12 @@ use libc::STDIN_FILENO;
 use libc::STDOUT_FILENO;
 
 mod cases;
+mod constellation;
 mod line;
 
 // How many lines of each function are met, how many turned ones are found different, and how many went wrong.
 struct Tally {
-    met: [u64; 6],
+    met: [u64; 9],
     found: u64,
     wrong: u64,
 }
@@ -34,7 +35,7 @@ fn with_line(tally: Tally, outcome: line::Outcome, at: u64) -> Tally {
     let mut next = tally;
     match outcome {
         line::Outcome::Met(function) => {
-            if function < 6 {
+            if function < 9 {
                 next.met[function] = std::num::wrapping_add_u64(next.met[function], 1);
             }
         }
@@ -52,7 +53,7 @@ fn with_line(tally: Tally, outcome: line::Outcome, at: u64) -> Tally {
 // Replays every line of the list; its bytes are read into the two slices.
 fn replayed(list: &[u8], given: &mut [u8], wanted: &mut [u8]) -> Tally {
     let mut tally = Tally {
-        met: [0; 6],
+        met: [0; 9],
         found: 0,
         wrong: 0,
     };
@@ -92,6 +93,9 @@ fn main() {
     say(b"ts_stuff_null_packets", tally.met[3]);
     say(b"ts_energy_disperse", tally.met[4]);
     say(b"DvbTEnergyDispersal", tally.met[5]);
+    say(b"dvb_t_map_symbol", tally.met[6]);
+    say(b"dvb_t_demap_symbol", tally.met[7]);
+    say(b"dvb_t_soft_llr", tally.met[8]);
     say(b"turned and found different", tally.found);
     say(b"wrong", tally.wrong);
 }

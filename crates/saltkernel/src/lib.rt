@@ -2,6 +2,7 @@
 ghost use Rattle.saltkernel.specs.Numbers.{Says};
 use ground::Counted;
 
+mod constellation;
 mod packets;
 mod whitener;
 

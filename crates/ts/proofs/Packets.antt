@@ -48,6 +48,11 @@ pub lent-payload : (s : List ℕ) (i m : ℕ) → m ≡ 187 → take m (drop (18
 lent-payload s i m em =
     ap (λ (x : ℕ). take x (drop (188 * i + 1) s)) em ∙ ap (take 187) (sym (drop-drop 1 (188 * i) s)) ∙ sym (drop-take 187 (drop (188 * i) s))
 
+-- a full payload has no zeros behind it
+pub padded-full : (c : List ℕ) → length c ≡ 187 → c ≡ padded c
+unfolding padded
+padded-full c h = let z : 0 ≡ 187 - length c = omega arith in sym (append-nil c) ∙ ap (λ (n : ℕ). c ++ replicate n 0) z
+
 -- the payload was copied to the front of a packet's tail, and zeros were put behind it
 pub payload-put : (c tail t u : List ℕ) (m : ℕ) → length c ≤ 187 → length tail ≡ 187 → t ≡ c → m ≡ 187 - length c
     → u ≡ replicate (length (midOf (length c) m (t ++ drop (length c) tail))) 0 → putMid (length c) m (t ++ drop (length c) tail) u ≡ padded c

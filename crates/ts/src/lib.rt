@@ -39,12 +39,28 @@ fn chunk_end(from: usize, len: usize) -> usize
     from + TS_PAYLOAD_LEN
 }
 
+// Copies 187 bytes, a number that the compiler can see.
+fn copy_full(payload: &[u8], tail: &mut [u8])
+    requires { ⌜ (length (now payload) ≡ 187) × (length (now tail) ≡ 187) ⌝ }
+    ensures { λ _. ⌜ now (tail .exit) ≡ now (payload .entry) ⌝ }
+{
+    let mut i = 0;
+    while i < TS_PAYLOAD_LEN {
+        tail[i] = payload[i];
+        i += 1;
+    }
+}
+
 // Puts at most 187 bytes of payload behind a packet's first byte, and zeros behind them.
 fn put_payload(payload: &[u8], tail: &mut [u8])
     requires { ⌜ (length (now payload) ≤ 187) × (length (now tail) ≡ 187) ⌝ }
     ensures { λ _. ⌜ now (tail .exit) ≡ padded (now (payload .entry)) ⌝ }
 {
     let len = payload.len();
+    if len == TS_PAYLOAD_LEN {
+        copy_full(payload, tail);
+        return;
+    }
     ground::inner::copy(payload, &mut tail[..len]);
     ground::inner::fill(&mut tail[len..], 0);
 }

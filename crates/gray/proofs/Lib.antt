@@ -1,0 +1,15 @@
+pub mod Answers
+pub mod Bits
+pub mod Determined
+pub mod Edges
+pub mod Large
+pub mod Least
+pub mod Magnitudes
+pub mod Nearest
+pub mod Patterns
+pub mod Points
+pub mod Rounding
+pub mod Scales
+pub mod Softs
+pub mod Tests
+pub mod Writes

@@ -1,0 +1,158 @@
+-- The bit patterns of the finite values of binary32: what number each stands for, that a larger pattern of a number that is not negative stands for no
+-- smaller number, and which patterns are finite. Assumes nothing.
+use Prim.Native.Nat.{ℕ, suc, _+_, _-_, _*_, _/_, _%_, _^_, _≤_, _<_}
+use native.Mathlib.Nat.{le-trans, le-of-eq, le-of-lt, lt-of-le-of-lt, eq-or-lt-of-le, mul-one, mul-assoc, mul-le-mul-right, mul-le-mul-left, pow-succ'}
+use native.Mathlib.Omega.{arith}
+use mathlib.Core.Path.{_≡_, refl, sym, ap, ap₂, _∙_, subst}
+use mathlib.Core.Logic.{⊎-elim, inl, inr}
+use mathlib.Core.Bool.{Bool, true, false, cond}
+use lib.Dec.{T, leb, eqb, leb→le, eqb→eq, not-T}
+use lib.Pow.{pow-mono}
+use lib.Ieee.{Float, nan, inf, binary32, odd, ofFields, ofBits}
+use lib.Ieee.Bits.{cond-no}
+use lib.Ieee.Exact.{HasValue, odd-sign}
+use lib.Ieee.Scale.{finite}
+use borrow.Author.Tests.{lt-ltb, le-ltb, lt-leb, le-leb}
+use Rattle.gray.specs.Scales.{units}
+use Rattle.gray.proofs.Nearest.{here-or-on}
+
+-- ---- the fields of a pattern
+ofBits-is : (b : ℕ) → ofBits binary32 b ≡ ofFields binary32 (leb 2147483648 b) (b % 2147483648 / 8388608) (b % 8388608)
+unfolding ofBits
+ofBits-is b = refl
+
+fields-low : (s : Bool) (t : ℕ) → ofFields binary32 s 0 t ≡ odd 24 s t 0 149
+unfolding ofFields
+fields-low s t = refl
+
+fields-high : (s : Bool) (t x : ℕ) → suc x < 255 → ofFields binary32 s (suc x) t ≡ odd 24 s (8388608 + t) x 149
+unfolding ofFields
+fields-high s t x h =
+    cond-no (eqb (suc x) 255) (cond (eqb t 0) (inf s) nan) (odd 24 s (8388608 + t) x 149) (not-T (eqb (suc x) 255) (λ (u : T (eqb (suc x) 255)). differ (eqb→eq (suc x) 255 u)))
+  where
+    differ : suc x ≡ 255 → ⊥
+    differ e = omega arith
+
+-- ---- the number that a pattern stands for
+abbrev high-units : ℕ → ℕ
+high-units b = (8388608 + b % 8388608) * 2 ^ (b / 8388608 - 1)
+
+units-low : (b : ℕ) → b < 8388608 → units b ≡ b
+units-low b h = ap (λ (t : Bool). cond t b (high-units b)) (lt-ltb b 8388608 h)
+
+units-high : (b : ℕ) → 8388608 ≤ b → units b ≡ high-units b
+units-high b h = ap (λ (t : Bool). cond t b (high-units b)) (le-ltb b 8388608 h)
+
+module _ (s : Bool) where
+  low-value : (b : ℕ) → b < 8388608 → HasValue (ofFields binary32 s (b / 8388608) (b % 8388608)) s (units b) (2 ^ 149)
+  low-value b h =
+      subst (λ (n : ℕ). HasValue (ofFields binary32 s (b / 8388608) (b % 8388608)) s n (2 ^ 149)) (mul-one b ∙ sym (units-low b h))
+      (subst (λ (x : Float). HasValue x s (b * 2 ^ 0) (2 ^ 149)) (sym (ap₂ (ofFields binary32 s) (none b h) (all b h) ∙ fields-low s b)) (odd-sign 24 s b 0 149))
+    where
+      none : (n : ℕ) → n < 8388608 → n / 8388608 ≡ 0
+      none n k = omega arith
+
+      all : (n : ℕ) → n < 8388608 → n % 8388608 ≡ n
+      all n k = omega arith
+
+  high-value : (b : ℕ) → 8388608 ≤ b → b < 0x7F80_0000 → HasValue (ofFields binary32 s (b / 8388608) (b % 8388608)) s (units b) (2 ^ 149)
+  high-value b h k =
+      subst (λ (n : ℕ). HasValue (ofFields binary32 s (b / 8388608) (b % 8388608)) s n (2 ^ 149)) (sym (units-high b h))
+      (subst (λ (x : Float). HasValue x s (high-units b) (2 ^ 149))
+      (sym (ap (λ (x : ℕ). ofFields binary32 s x (b % 8388608)) (sym (field b h)) ∙ fields-high s (b % 8388608) (b / 8388608 - 1) (field-lt b h k)))
+      (odd-sign 24 s (8388608 + b % 8388608) (b / 8388608 - 1) 149))
+    where
+      field : (n : ℕ) → 8388608 ≤ n → suc (n / 8388608 - 1) ≡ n / 8388608
+      field n h = omega arith
+
+      field-lt : (n : ℕ) → 8388608 ≤ n → n < 2139095040 → suc (n / 8388608 - 1) < 255
+      field-lt n h k = omega arith
+
+  fields-value : (b : ℕ) → b < 0x7F80_0000 → HasValue (ofFields binary32 s (b / 8388608) (b % 8388608)) s (units b) (2 ^ 149)
+  fields-value b k = ⊎-elim (λ l. low-value b l) (λ g. high-value b g k) (here-or-on b 8388608)
+
+-- the float of a pattern with a clear sign, and of one with the sign set
+pub units-is : (b : ℕ) → b < 0x7F80_0000 → HasValue (ofBits binary32 b) false (units b) (2 ^ 149)
+units-is b h =
+    subst (λ (x : Float). HasValue x false (units b) (2 ^ 149))
+    (sym (ofBits-is b ∙ ap₂ (λ (s : Bool) (x : ℕ). ofFields binary32 s x (b % 8388608)) (lt-leb 2147483648 b (small b h)) (same b h))) (fields-value false b h)
+  where
+    small : (n : ℕ) → n < 2139095040 → n < 2147483648
+    small n k = omega arith
+
+    same : (n : ℕ) → n < 2139095040 → n % 2147483648 / 8388608 ≡ n / 8388608
+    same n k = omega arith
+
+pub units-is-negative : (b : ℕ) → b < 0x7F80_0000 → HasValue (ofBits binary32 (0x8000_0000 + b)) true (units b) (2 ^ 149)
+units-is-negative b h =
+    subst (λ (x : Float). HasValue x true (units b) (2 ^ 149))
+    (sym (ofBits-is (2147483648 + b) ∙ ap₂ (λ (s : Bool) (x : ℕ). ofFields binary32 s x ((2147483648 + b) % 8388608)) (le-leb 2147483648 (2147483648 + b) (more b)) (same b h) ∙ ap (ofFields binary32 true (b / 8388608)) (rest b)))
+    (fields-value true b h)
+  where
+    more : (n : ℕ) → 2147483648 ≤ 2147483648 + n
+    more n = omega arith
+
+    same : (n : ℕ) → n < 2139095040 → (2147483648 + n) % 2147483648 / 8388608 ≡ n / 8388608
+    same n k = omega arith
+
+    rest : (n : ℕ) → (2147483648 + n) % 8388608 ≡ n % 8388608
+    rest n = omega arith
+
+-- ---- order
+high-mono : (b c : ℕ) → 8388608 ≤ b → b ≤ c → high-units b ≤ high-units c
+high-mono b c h k =
+    elim (eq-or-lt-of-le (fields-le b c k)) [
+      | inl e ↦ subst (λ (x : ℕ). high-units b ≤ (8388608 + c % 8388608) * 2 ^ (x - 1)) e (mul-le-mul-right (2 ^ (b / 8388608 - 1)) (digits-le b c k e))
+      | inr l ↦
+          le-trans (mul-le-mul-right (2 ^ (b / 8388608 - 1)) (twice b))
+          (le-trans (le-of-eq (mul-assoc 8388608 2 (2 ^ (b / 8388608 - 1)) ∙ ap (λ (x : ℕ). 8388608 * x) (sym (pow-succ' 2 (b / 8388608 - 1)))))
+          (le-trans (mul-le-mul-left 8388608 (pow-mono (next (b / 8388608) (c / 8388608) (first b h) l))) (mul-le-mul-right (2 ^ (c / 8388608 - 1)) (once c))))
+    ]
+  where
+    fields-le : (b c : ℕ) → b ≤ c → b / 8388608 ≤ c / 8388608
+    fields-le b c h = omega arith
+
+    digits-le : (b c : ℕ) → b ≤ c → b / 8388608 ≡ c / 8388608 → 8388608 + b % 8388608 ≤ 8388608 + c % 8388608
+    digits-le b c h e = omega arith
+
+    twice : (b : ℕ) → 8388608 + b % 8388608 ≤ 8388608 * 2
+    twice b = omega arith
+
+    once : (c : ℕ) → 8388608 ≤ 8388608 + c % 8388608
+    once c = omega arith
+
+    next : (x y : ℕ) → 1 ≤ x → x < y → suc (x - 1) ≤ y - 1
+    next x y h k = omega arith
+
+    first : (b : ℕ) → 8388608 ≤ b → 1 ≤ b / 8388608
+    first b h = omega arith
+
+pub units-mono : (b c : ℕ) → b ≤ c → units b ≤ units c
+units-mono b c h =
+    ⊎-elim
+    (λ cl. subst (λ (n : ℕ). n ≤ units c) (sym (units-low b (lt-of-le-of-lt h cl))) (subst (λ (n : ℕ). b ≤ n) (sym (units-low c cl)) h))
+    (λ ch. ⊎-elim
+    (λ bl. subst (λ (n : ℕ). n ≤ units c) (sym (units-low b bl)) (subst (λ (n : ℕ). b ≤ n) (sym (units-high c ch)) (le-trans (le-of-lt bl) (high-mono 8388608 c (leb→le 8388608 8388608 tt) ch))))
+    (λ bh. subst (λ (n : ℕ). n ≤ units c) (sym (units-high b bh)) (subst (λ (n : ℕ). high-units b ≤ n) (sym (units-high c ch)) (high-mono b c bh h)))
+    (here-or-on b 8388608))
+    (here-or-on c 8388608)
+
+-- ---- a pattern whose exponent's field is all ones is not finite
+ones-not-finite : (s : Bool) (t : ℕ) → T (finite (ofFields binary32 s 255 t)) → ⊥
+unfolding ofFields
+ones-not-finite s t = go (eqb t 0)
+  where
+    go : (u : Bool) → T (finite (cond u (inf s) nan)) → ⊥
+    go true h = h
+    go false h = h
+
+pub finite-field : (b : ℕ) → T (finite (ofBits binary32 b)) → b % 0x8000_0000 < 0x7F80_0000
+finite-field b h = ⊎-elim (λ l. l) (λ g. absurd (all-ones g)) (here-or-on (b % 2147483648) 2139095040)
+  where
+    field : (n : ℕ) → 2139095040 ≤ n % 2147483648 → n % 2147483648 / 8388608 ≡ 255
+    field n g = omega arith
+
+    all-ones : 2139095040 ≤ b % 2147483648 → ⊥
+    all-ones g =
+        ones-not-finite (leb 2147483648 b) (b % 8388608)
+        (subst (λ (x : Float). T (finite x)) (ofBits-is b ∙ ap (λ (x : ℕ). ofFields binary32 (leb 2147483648 b) x (b % 8388608)) (field b g)) h)

@@ -1,0 +1,6 @@
+pub mod Levels
+pub mod Scales
+pub mod Mapping
+pub mod Hard
+pub mod Soft
+pub mod Inner
