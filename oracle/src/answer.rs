@@ -8,8 +8,9 @@ use std::fmt;
 pub enum Value {
     Number(u64),
     Bytes(Vec<u8>),
-    /// Floats by their bits, every NaN as one.
+    /// Floats by their bits; `floats` takes every NaN as one.
     Floats(Vec<u32>),
+    Indices(Vec<u16>),
     Text(String),
 }
 
@@ -38,6 +39,21 @@ impl Answer {
     /// The answer with floats more.
     pub fn floats(self, name: &str, floats: &[f32]) -> Self {
         self.with(name, Value::Floats(floats.iter().copied().map(pattern).collect()))
+    }
+
+    /// The answer with floats more, each NaN by its own bits.
+    pub fn exact_floats(self, name: &str, floats: &[f32]) -> Self {
+        self.with(name, Value::Floats(floats.iter().map(|float| float.to_bits()).collect()))
+    }
+
+    /// The answer with indices more.
+    pub fn indices(self, name: &str, indices: &[u16]) -> Self {
+        self.with(name, Value::Indices(indices.to_vec()))
+    }
+
+    /// The answer with a signed number more.
+    pub fn signed(self, name: &str, number: i32) -> Self {
+        self.with(name, Value::Text(number.to_string()))
     }
 
     /// The answer with what became of the memory that the call may not write.
@@ -79,7 +95,8 @@ impl fmt::Display for Value {
         match self {
             Value::Number(number) => write!(to, "{number}"),
             Value::Bytes(bytes) => write!(to, "{}", shown(bytes)),
-            Value::Floats(patterns) => write!(to, "{}", patterns.iter().map(|bits| float(*bits)).collect::<Vec<_>>().join(", ")),
+            Value::Floats(patterns) => write!(to, "{}", floats(patterns)),
+            Value::Indices(indices) => write!(to, "{indices:?}"),
             Value::Text(text) => write!(to, "{text}"),
         }
     }
@@ -89,7 +106,8 @@ impl fmt::Display for Value {
 fn places(one: &Value, two: &Value) -> String {
     let (one, two) = match (one, two) {
         (Value::Bytes(one), Value::Bytes(two)) => (one, two),
-        (Value::Floats(one), Value::Floats(two)) => return values(one, two),
+        (Value::Floats(one), Value::Floats(two)) => return values(one, two, |bits| float(*bits)),
+        (Value::Indices(one), Value::Indices(two)) => return values(one, two, u16::to_string),
         _ => return String::new(),
     };
     match one.iter().zip(two).position(|(a, b)| a != b) {
@@ -98,15 +116,31 @@ fn places(one: &Value, two: &Value) -> String {
     }
 }
 
-/// Where two lists of floats differ.
-fn values(one: &[u32], two: &[u32]) -> String {
-    let place = one.iter().zip(two).position(|(a, b)| a != b);
-    place.map_or(String::new(), |place| format!(" at value {place}: {} and {}", float(one[place]), float(two[place])))
+/// Where two lists of floats or indices differ.
+fn values<T: PartialEq>(one: &[T], two: &[T], shown: impl Fn(&T) -> String) -> String {
+    match one.iter().zip(two).position(|(a, b)| a != b) {
+        Some(place) => format!(" at value {place}: {} and {}", shown(&one[place]), shown(&two[place])),
+        None => format!(", the length: {} and {}", one.len(), two.len()),
+    }
 }
 
 /// A float's bits in hexadecimal, and its value.
 pub fn float(bits: u32) -> String {
     format!("{bits:08x} ({:?})", f32::from_bits(bits))
+}
+
+/// At most so many runs of floats are shown.
+const SHOWN_FLOATS: usize = 40;
+
+/// Floats by their bits, with `*N` behind one that stands N times in a row.
+pub fn floats(patterns: &[u32]) -> String {
+    let mut runs = patterns.chunk_by(|a, b| a == b);
+    let times = |run: &[u32]| if run.len() == 1 { float(run[0]) } else { format!("{}*{}", float(run[0]), run.len()) };
+    let mut text: Vec<String> = runs.by_ref().take(SHOWN_FLOATS).map(times).collect();
+    if runs.next().is_some() {
+        text.push(format!(".. ({} values)", patterns.len()));
+    }
+    if text.is_empty() { "none".to_string() } else { text.join(", ") }
 }
 
 /// At most so many runs of bytes are shown.

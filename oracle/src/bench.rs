@@ -1,11 +1,16 @@
 //! The port's speed against orion-sdr's, both built for release, measured in turn in one run.
 
+mod bench_codes;
+mod bench_pilots;
 #[allow(dead_code)]
 mod points;
 #[allow(dead_code)]
 mod random;
 #[allow(dead_code)]
 mod salt;
+mod salt_codes;
+#[allow(dead_code)]
+mod salt_pilots;
 
 use num_complex::Complex32;
 use orion_sdr::waveform::dvb_t as gray;
@@ -27,19 +32,24 @@ const SPAN: f64 = 0.002;
 const POINTS: usize = 4 * 1512;
 
 fn main() {
-    let (mut bytes, mut calls) = (byte_rows(), call_rows());
+    let (mut bytes, mut calls, mut symbols) = (byte_rows(), call_rows(), bench_pilots::rows());
+    calls.extend(bench_codes::rows());
     for _ in 0..ROUNDS {
-        bytes.iter_mut().chain(&mut calls).for_each(Row::measure);
+        bytes.iter_mut().chain(&mut calls).chain(&mut symbols).for_each(Row::measure);
     }
     println!("{:<28} {:>8} {:>15} {:>10} {:>10} {:>8} {:>7}", "function", "bytes", "orion-sdr MB/s", "ours MB/s", "copy MB/s", "ratio", "asked");
     bytes.iter().for_each(Row::print);
     println!("{:<28} {:>8} {:>15} {:>10} {:>10} {:>8} {:>7}", "function", "bits", "orion-sdr Mc/s", "ours Mc/s", "", "ratio", "asked");
     calls.iter().for_each(Row::print);
+    println!("{:<28} {:>8} {:>15} {:>10} {:>10} {:>8} {:>7}", "function", "cells", "orion-sdr ks/s", "ours ks/s", "copy ks/s", "ratio", "asked");
+    symbols.iter().for_each(Row::print);
     println!("Best of {ROUNDS} rounds in turn; ratio is ours by orion-sdr's, copy a plain copy of as many bytes: the limit.");
     println!("orion-sdr's ts_packetize and ts_depacketize allocate the Vec that they answer; ours write into a lent buffer.");
     println!("Mc/s: million calls a second, on points as a receiver sees them. orion-sdr's dvb_t_demap_symbol and dvb_t_soft_llr allocate");
     println!("the Vec that they answer, and one for each axis; ours write into a lent buffer and answer by value.");
-    let rows: Vec<Row> = bytes.into_iter().chain(calls).collect();
+    println!("orion-sdr's tps_bch_decode makes the tables of its field at each call.");
+    println!("ks/s: thousand symbols a second, phase after phase; both sides' objects are made once and write into a lent buffer.");
+    let rows: Vec<Row> = bytes.into_iter().chain(calls).chain(symbols).collect();
     let below = rows.iter().filter(|row| row.below()).count();
     let asked = rows.iter().filter(|row| row.asked.is_some()).count();
     println!("{} of {asked} asked ratios met", asked - below);
@@ -85,7 +95,8 @@ fn repeated(mut action: impl FnMut() + 'static) -> Action {
     Box::new(move |times| (0..times).for_each(|_| action()))
 }
 
-/// One line of a table: the bytes of a call or the bits of a group, and how many bytes or calls an action comes to.
+/// One line of a table: the bytes of a call, the bits of a group or the cells that a call writes, and how many bytes, calls or thousandths
+/// of a symbol an action comes to.
 struct Row {
     name: &'static str,
     size: usize,

@@ -18,6 +18,26 @@ impl Item for u8 {
     }
 }
 
+impl Item for u16 {
+    fn guard(place: usize) -> u16 {
+        0xC700 + (place * 29 % 251) as u16
+    }
+
+    fn same(self, other: u16) -> bool {
+        self == other
+    }
+}
+
+impl Item for f32 {
+    fn guard(place: usize) -> f32 {
+        f32::from_bits(0xC7C7_0000 + (place * 29 % 65_521) as u32)
+    }
+
+    fn same(self, other: f32) -> bool {
+        self.to_bits() == other.to_bits()
+    }
+}
+
 /// How many guard items stand behind a slice, and at least so many before it.
 const GUARD: usize = 64;
 

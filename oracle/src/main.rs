@@ -1,15 +1,20 @@
 //! Compares the port's static library with orion-sdr's own Rust, module by module.
-//! A new module is a file with its `Subject`s and a `compare`, and two lines here; its C functions stand in salt.rs.
+//! A new module is a file with its `Subject`s and a `compare`, and two lines here; its C functions stand in salt.rs or a file of their own.
 
 mod answer;
+mod codes;
 mod dispersal;
 mod gray;
 mod harness;
 mod lent;
+mod pilots;
 mod points;
 mod random;
 mod salt;
+mod salt_codes;
+mod salt_pilots;
 mod shrink;
+mod symbols;
 mod ts;
 
 /// The seed of a run that names none.
@@ -21,6 +26,9 @@ fn main() {
     ts::compare(&mut run);
     dispersal::compare(&mut run);
     gray::compare(&mut run);
+    pilots::compare(&mut run);
+    symbols::compare(&mut run);
+    codes::compare(&mut run);
     run.finish();
 }
 

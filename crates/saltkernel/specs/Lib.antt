@@ -1,1 +1,4 @@
 pub mod Numbers
+pub mod Carriers
+pub mod Grid
+pub mod Codes

@@ -12,8 +12,8 @@ use Rattle.gray.specs.declared.Soft.{Soft}
 use Rattle.gray.specs.Mapping as Mapping
 use Rattle.gray.specs.Soft as Softs
 use Rattle.saltkernel.specs.declared.SaltCounted.{SaltCounted}
-use Rattle.saltkernel.specs.declared.constellation.SaltCell.{SaltCell}
-use Rattle.saltkernel.specs.declared.constellation.SaltMapped.{SaltMapped}
+use Rattle.saltkernel.specs.declared.SaltCell.{SaltCell}
+use Rattle.saltkernel.specs.declared.SaltMapped.{SaltMapped}
 use Rattle.saltkernel.specs.declared.constellation.SaltSoft.{SaltSoft}
 
 -- the two numbers are what the answer says

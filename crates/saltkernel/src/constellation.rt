@@ -6,25 +6,13 @@ ghost use Rattle.gray.specs.Mapping.{mappedOf};
 ghost use Rattle.gray.specs.Hard.{demapNo, Demapped};
 ghost use Rattle.gray.specs.Soft.{softOf};
 ghost use Rattle.saltkernel.specs.Numbers.{Says, cellOf, SaysPoint, SaysSoft};
+use super::SaltCell;
 use super::SaltCounted;
+use super::SaltMapped;
 use super::numbers_of;
 use gray::Mapped;
 use gray::Soft;
 use ground::Cell;
-
-// A carrier's value.
-#[repr(C)]
-pub struct SaltCell {
-    pub re: f32,
-    pub im: f32,
-}
-
-// A point, or a refusal's number: the number is 0 where the call was accepted, and elsewhere the point is +0.0, +0.0.
-#[repr(C)]
-pub struct SaltMapped {
-    pub number: u8,
-    pub point: SaltCell,
-}
 
 // Soft values, or a refusal's number: the first count of them are values, the others +0.0.
 #[repr(C)]

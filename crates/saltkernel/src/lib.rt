@@ -2,8 +2,11 @@
 ghost use Rattle.saltkernel.specs.Numbers.{Says};
 use ground::Counted;
 
+mod codes;
 mod constellation;
 mod packets;
+mod pilots;
+mod symbols;
 mod whitener;
 
 // A count, or a refusal's number: the number is 0 where the call was accepted.
@@ -11,6 +14,20 @@ mod whitener;
 pub struct SaltCounted {
     pub number: u8,
     pub count: usize,
+}
+
+// A carrier's value.
+#[repr(C)]
+pub struct SaltCell {
+    pub re: f32,
+    pub im: f32,
+}
+
+// A point, or a refusal's number: the number is 0 where the call was accepted, and elsewhere the point is +0.0, +0.0.
+#[repr(C)]
+pub struct SaltMapped {
+    pub number: u8,
+    pub point: SaltCell,
 }
 
 // A packet's bytes.

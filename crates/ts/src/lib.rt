@@ -1,6 +1,6 @@
 // Transport packets, null packets and stuffing, and energy dispersal over packets (EN 300 744, 4.3.1).
 ghost use mathlib.Core.Path.{_≡_};
-ghost use Prim.Native.Nat.{_+_, _-_, _*_, _/_, _%_, _<_, _≤_, min, max};
+ghost use Prim.Native.Nat.{_+_, _-_, _*_, _/_, _%_, _^_, _<_, _≤_, min, max};
 ghost use lib.ListN.{length};
 ghost use Rattle.ground.specs.Answer.{counted, kept, written};
 ghost use Rattle.ts.specs.Packets.{count, padded, packet, packetized, packetizeNo, payloads, depacketizeNo};
@@ -19,7 +19,7 @@ pub const TS_SYNC_BYTE: u8 = 0x47;
 
 // How many packets a payload of len bytes makes.
 fn packets_for(len: usize) -> usize
-    requires { ⌜ len < 2 * 4611686018427387904 ⌝ }
+    requires { ⌜ len < 2 ^ 63 ⌝ }
     ensures { λ r. ⌜ r ≡ count len ⌝ }
 {
     if len == 0 {

@@ -1,27 +1,22 @@
 -- `saltkernel::constellation::point_numbers_of` meets its contract: each case says its numbers. Assumes nothing.
 use mathlib.Core.Path.{refl, sym}
-use Rattle.saltkernel.proofs.Numbers.{says-point-equal}
+use Rattle.saltkernel.specs.Numbers.{SaysPoint}
+use Rattle.saltkernel.proofs.Numbers.{says-equal}
 use borrow.Author.Needs.{needs}
 use Rattle.saltkernel.proofs.constellation.point_numbers_of.Statement.{statement}
 use Rattle.saltkernel.proofs.constellation.point_numbers_of.Tie as tie
-use Rattle.saltkernel.proofs.constellation.point_numbers_of.Reads as reads
-use Rattle.saltkernel.proofs.constellation.point_numbers_of.Lts as lts
 
--- src/constellation.rt:42:23
 enum-known-answer : tie.Need-enum-known-answer
 enum-known-answer c = search needs
 
--- src/constellation.rt:46:25
 enum-known-answer-2 : tie.Need-enum-known-answer-2
 enum-known-answer-2 c = search needs
 
--- src/constellation.rt:38:1
 returns : tie.Need-returns
-returns c = says-point-equal _ _ _ (sym (c .before .answer .given .1)) (record { says-number = refl; says-point = refl })
+returns c = says-equal SaysPoint _ _ _ (sym (c .before .answer .given .1)) (record { says-number = refl; says-point = refl })
 
--- src/constellation.rt:38:1
 returns-2 : tie.Need-returns-2
-returns-2 c = says-point-equal _ _ _ (sym (c .before .answer2 .given .1)) (record { says-number = refl; says-point = refl })
+returns-2 c = says-equal SaysPoint _ _ _ (sym (c .before .answer2 .given .1)) (record { says-number = refl; says-point = refl })
 
 pub point-numbers-of-spec : {M : Type 1} → statement M
 point-numbers-of-spec =

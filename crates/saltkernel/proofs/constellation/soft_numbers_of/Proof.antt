@@ -1,43 +1,34 @@
 -- `saltkernel::constellation::soft_numbers_of` meets its contract: each case says its numbers. Assumes nothing.
 use mathlib.Core.Path.{refl, sym}
-use Rattle.saltkernel.proofs.Numbers.{says-soft-equal}
+use Rattle.saltkernel.specs.Numbers.{SaysSoft}
+use Rattle.saltkernel.proofs.Numbers.{says-equal}
 use borrow.Author.Needs.{needs}
 use Rattle.saltkernel.proofs.constellation.soft_numbers_of.Statement.{statement}
 use Rattle.saltkernel.proofs.constellation.soft_numbers_of.Tie as tie
-use Rattle.saltkernel.proofs.constellation.soft_numbers_of.Reads as reads
-use Rattle.saltkernel.proofs.constellation.soft_numbers_of.Lts as lts
 
--- src/constellation.rt:82:19
 enum-known-answer : tie.Need-enum-known-answer
 enum-known-answer c = search needs
 
--- src/constellation.rt:87:20
 enum-known-answer-2 : tie.Need-enum-known-answer-2
 enum-known-answer-2 c = search needs
 
--- src/constellation.rt:92:19
 enum-known-answer-3 : tie.Need-enum-known-answer-3
 enum-known-answer-3 c = search needs
 
--- src/constellation.rt:97:23
 enum-known-answer-4 : tie.Need-enum-known-answer-4
 enum-known-answer-4 c = search needs
 
--- src/constellation.rt:78:1
 returns : tie.Need-returns
-returns c = says-soft-equal _ _ _ (sym (c .before .answer .given .1)) (record { says-number = refl; says-count = refl; says-values = refl })
+returns c = says-equal SaysSoft _ _ _ (sym (c .before .answer .given .1)) (record { says-number = refl; says-count = refl; says-values = refl })
 
--- src/constellation.rt:78:1
 returns-2 : tie.Need-returns-2
-returns-2 c = says-soft-equal _ _ _ (sym (c .before .answer2 .given .1)) (record { says-number = refl; says-count = refl; says-values = refl })
+returns-2 c = says-equal SaysSoft _ _ _ (sym (c .before .answer2 .given .1)) (record { says-number = refl; says-count = refl; says-values = refl })
 
--- src/constellation.rt:78:1
 returns-3 : tie.Need-returns-3
-returns-3 c = says-soft-equal _ _ _ (sym (c .before .answer3 .given .1)) (record { says-number = refl; says-count = refl; says-values = refl })
+returns-3 c = says-equal SaysSoft _ _ _ (sym (c .before .answer3 .given .1)) (record { says-number = refl; says-count = refl; says-values = refl })
 
--- src/constellation.rt:78:1
 returns-4 : tie.Need-returns-4
-returns-4 c = says-soft-equal _ _ _ (sym (c .before .answer4 .given .1)) (record { says-number = refl; says-count = refl; says-values = refl })
+returns-4 c = says-equal SaysSoft _ _ _ (sym (c .before .answer4 .given .1)) (record { says-number = refl; says-count = refl; says-values = refl })
 
 pub soft-numbers-of-spec : {M : Type 1} → statement M
 soft-numbers-of-spec =

@@ -1,4 +1,5 @@
 -- `saltkernel::packets::salt_ts_depacketize` meets its contract: the numbers say what the library function answers. Assumes nothing.
+use Rattle.saltkernel.specs.Numbers.{Says}
 use Rattle.saltkernel.proofs.Numbers.{says-equal}
 use borrow.Author.Needs.{needs}
 use Rattle.saltkernel.proofs.packets.salt_ts_depacketize.Statement.{statement}
@@ -14,7 +15,7 @@ same-length : tie.Need-same-length
 same-length c = search needs
 
 returns : tie.Need-returns
-returns c = let f = c .before .before .before .ts-depacketize in (says-equal (c .numbers-of .result) (f .result) _ (f .ensures .0) (c .numbers-of .ensures), f .ensures .1)
+returns c = let f = c .before .before .before .ts-depacketize in (says-equal Says (c .numbers-of .result) (f .result) _ (f .ensures .0) (c .numbers-of .ensures), f .ensures .1)
 
 pub salt-ts-depacketize-spec : {M : Type 1} → statement M
 salt-ts-depacketize-spec =

@@ -1,0 +1,50 @@
+-- Document 01, 'Small facts', (4), (5) and (6). Assumes nothing.
+use mathlib.Core.Path.{_≡_, refl, _∙_}
+use mathlib.Core.List.{List, [], _∷_, _++_}
+use Prim.Native.Nat.{ℕ, _≤_}
+use native.Mathlib.Omega.{arith}
+use lib.ListN.{length, replicate}
+use Rattle.ground.specs.Refusal.{NO-WORD}
+use Rattle.ground.specs.Answer.{counted}
+use Rattle.ground.specs.declared.Counted.{Counted}
+use Rattle.bch.specs.Poly.{Bits, divisionStep}
+use Rattle.bch.specs.Code.{remainderOf, parity}
+use Rattle.bch.specs.Field.{timesX}
+use Rattle.bch.specs.Promise.{Lone, Decodes}
+use Rattle.bch.specs.Search.{syn1}
+use Rattle.bch.proofs.Digits.{zeros-bits, bits-append}
+use Rattle.bch.proofs.Syndromes.{lone}
+use Rattle.bch.proofs.Mending.{none-near}
+use Rattle.bch.proofs.Determined.{refuses}
+
+-- (4) zero information has zero parity
+pub zero-parity : parity (replicate 53 0) ≡ 0
+unfolding divisionStep
+zero-parity = refl
+
+-- (5) information with only s53 set has parity 0x0377
+pub last-parity : parity (replicate 52 0 ++ 1 ∷ []) ≡ 0x0377
+unfolding divisionStep
+last-parity = refl
+
+-- the bits with only the degrees 7, 3 and 0 set
+abbrev pub three : List ℕ
+three = replicate 59 0 ++ 1 ∷ 0 ∷ 0 ∷ 0 ∷ 1 ∷ 0 ∷ 0 ∷ 1 ∷ []
+
+three-rem : remainderOf 0 three ≡ 0x89
+unfolding divisionStep
+three-rem = refl
+
+three-bits : Bits three
+three-bits = bits-append (replicate 59 0) (1 ∷ 0 ∷ 0 ∷ 0 ∷ 1 ∷ 0 ∷ 0 ∷ 1 ∷ []) (zeros-bits 59) (omega arith)
+
+three-syn1 : syn1 0x89 ≡ 0
+unfolding divisionStep timesX syn1
+three-syn1 = refl
+
+three-lone : Lone three
+three-lone = none-near three three-bits refl (λ ps i l e. lone 0x89 three-syn1 (omega arith) ps i l (e ∙ three-rem))
+
+-- (6) bits with only the degrees 7, 3 and 0 set are NO WORD
+pub three-no-word : (o a : List ℕ) (r : Counted) → 53 ≤ length o → Decodes three o r a → (r ≡ counted NO-WORD 53) × (a ≡ o)
+three-no-word o a r room h = refuses three o a r three-bits refl room h three-lone

@@ -1,0 +1,193 @@
+-- The search for the locator's roots: one degree on, two degrees on, and what its answers say of the changed places.
+-- Assumes nothing.
+use mathlib.Core.Path.{_≡_, refl, sym, ap, ap₂, _∙_, subst}
+use mathlib.Core.List.{List, [], _∷_}
+use Prim.Native.Nat.{ℕ, zero, suc, _+_, _-_, _^_, _<_, _≤_}
+use native.Mathlib.Omega.{arith}
+use native.Mathlib.Decide.{ℕ-discrete, decLt}
+use lib.Bits.{bitXor}
+use lib.ListN.{length}
+use Rattle.bch.specs.Field.{timesX, mul}
+use Rattle.bch.specs.Search.{timesX2, timesX4, steps, valueAt, Syndromes, Passed, NextRoot, added, Rising}
+use Rattle.bch.proofs.Field.{Additive, x-additive, x2-additive, mul-lt, one-mul, mul-comm}
+use Rattle.bch.proofs.Locator.{sq, loc, alpha, at, next-first, next-second}
+use Rattle.bch.proofs.Syndromes.{one-root, two-roots, no-pair}
+
+-- ---- steps
+
+steps-add : (f : ℕ → ℕ) (m k a : ℕ) → steps f (m + k) a ≡ steps f m (steps f k a)
+steps-add f zero k a = let e : zero + k ≡ k = omega arith in ap (λ (n : ℕ). steps f n a) e
+steps-add f (suc m) k a = let e : suc m + k ≡ suc (m + k) = omega arith in ap (λ (n : ℕ). steps f n a) e ∙ ap f (steps-add f m k a)
+
+steps-lt : (f : ℕ → ℕ) → Additive f → (k a : ℕ) → a < 2 ^ 7 → steps f k a < 2 ^ 7
+steps-lt f hf zero a h = h
+steps-lt f hf (suc k) a h = hf .lt (steps f k a) (steps-lt f hf k a h)
+
+one-more : (f : ℕ → ℕ) (d e a b c : ℕ) → d ≤ e → b ≡ steps f (e - d) a → c ≡ f b → c ≡ steps f (e + 1 - d) a
+one-more f d e a b c h p q = let z : e + 1 - d ≡ suc (e - d) = omega arith in q ∙ ap f p ∙ sym (ap (λ (n : ℕ). steps f n a) z)
+
+-- ---- the search moves on
+
+pub passed-none : (c p q d : ℕ) → d ≤ 67 → Passed c p q d p q d
+passed-none c p q d h =
+    let z : d - d ≡ 0 = omega arith in
+    record {
+      on = omega arith;
+      within = h;
+      first = sym (ap (λ (n : ℕ). steps timesX2 n p) z);
+      second = sym (ap (λ (n : ℕ). steps timesX n q) z);
+      none = λ k l e. absurd (omega arith);
+    }
+
+module _ {c p q d p' q' d' : ℕ} (s : Passed c p q d p' q' d') where
+  pub passed-lt : p < 2 ^ 7 → q < 2 ^ 7 → (p' < 2 ^ 7) × (q' < 2 ^ 7)
+  passed-lt hp hq = (
+    subst (λ (x : ℕ). x < 2 ^ 7) (sym (s .first)) (steps-lt timesX2 x2-additive (d' - d) p hp),
+    subst (λ (x : ℕ). x < 2 ^ 7) (sym (s .second)) (steps-lt timesX x-additive (d' - d) q hq),
+  )
+
+  pub passed-one : {r t : ℕ} → d' < 67 → (bitXor p' q' ≡ c → ⊥) → r ≡ timesX2 p' → t ≡ timesX q' → Passed c p q d r t (d' + 1)
+  passed-one h n er et =
+      let o = s .on in
+      record {
+        on = omega arith;
+        within = omega arith;
+        first = one-more timesX2 d d' p p' _ o (s .first) er;
+        second = one-more timesX d d' q q' _ o (s .second) et;
+        none = λ k l e. by k l e (ℕ-discrete k (d' - d));
+      }
+    where
+      by : (k : ℕ) → k < d' + 1 - d → valueAt p q k ≡ c → Dec (k ≡ d' - d) → ⊥
+      by k l e (yes z) = n (ap₂ bitXor (s .first) (s .second) ∙ sym (ap (valueAt p q) z) ∙ e)
+      by k l e (no z) = let o = s .on in s .none k (omega arith) e
+
+pub passed-two : {c p q d p' q' d' r t : ℕ} → Passed c p q d p' q' d' → d' < 66 → (bitXor p' q' ≡ c → ⊥)
+    → (bitXor (timesX2 p') (timesX q') ≡ c → ⊥) → r ≡ timesX4 p' → t ≡ timesX2 q' → Passed c p q d r t (d' + 2)
+passed-two {c} {p} {q} {d} {p'} {q'} {d'} {r} {t} s h n m er et =
+    let z : d' + 1 + 1 ≡ d' + 2 = omega arith in
+    subst (λ (e : ℕ). Passed c p q d r t e) z (passed-one (passed-one s (omega arith) n refl refl) (omega arith) m er et)
+
+-- what was passed first, and then
+pub passed-then : {c p q d p' q' d' p2 q2 d2 : ℕ} → Passed c p q d p' q' d' → Passed c p' q' d' p2 q2 d2 → Passed c p q d p2 q2 d2
+passed-then {c} {p} {q} {d} {p'} {q'} {d'} {p2} {q2} {d2} s t =
+    let o = s .on in
+    let m = t .on in
+    record {
+      on = omega arith;
+      within = t .within;
+      first = t .first ∙ both timesX2 p p' (d2 - d') (d2 - d) (s .first) (omega arith);
+      second = t .second ∙ both timesX q q' (d2 - d') (d2 - d) (s .second) (omega arith);
+      none = λ k l e. by k l e (decLt k (d' - d));
+    }
+  where
+    both : (f : ℕ → ℕ) (a b m n : ℕ) → b ≡ steps f (d' - d) a → m + (d' - d) ≡ n → steps f m b ≡ steps f n a
+    both f a b m n e z = ap (steps f m) e ∙ sym (steps-add f m (d' - d) a) ∙ ap (λ (k : ℕ). steps f k a) z
+
+    by : (k : ℕ) → k < d2 - d → valueAt p q k ≡ c → Dec (k < d' - d) → ⊥
+    by k l e (yes h) = s .none k h e
+    by k l e (no h) =
+        let o = s .on in
+        let m = t .on in
+        t .none (k - (d' - d)) (omega arith)
+        (ap₂ bitXor (both timesX2 p p' (k - (d' - d)) k (s .first) (omega arith)) (both timesX q q' (k - (d' - d)) k (s .second) (omega arith)) ∙ e)
+
+-- the terms of a search from S1 and its square, and those one degree on, are elements
+pub terms-lt : {c u w d p q d' : ℕ} → u < 2 ^ 7 → w ≡ mul u u → Passed c u w d p q d' → (p < 2 ^ 7) × (q < 2 ^ 7)
+terms-lt {c} {u} h e s = passed-lt s h (subst (λ (x : ℕ). x < 2 ^ 7) (sym e) (mul-lt u u))
+
+pub next-lt : {p q r t : ℕ} → p < 2 ^ 7 → q < 2 ^ 7 → r ≡ timesX2 p → t ≡ timesX q → (r < 2 ^ 7) × (t < 2 ^ 7)
+next-lt {p} {q} hp hq er et = (
+  subst (λ (x : ℕ). x < 2 ^ 7) (sym er) (x2-additive .lt p hp),
+  subst (λ (x : ℕ). x < 2 ^ 7) (sym et) (x-additive .lt q hq),
+)
+
+-- ---- from the first terms on
+
+-- u and v are the first terms, and from p and q, at the degree d, the search has moved on
+from-start : {c u v p q d p' q' d' : ℕ} → p ≡ steps timesX2 d u → q ≡ steps timesX d v → Passed c p q d p' q' d'
+    → (p' ≡ steps timesX2 d' u) × (q' ≡ steps timesX d' v) × ((k : ℕ) → d ≤ k → k < d' → valueAt u v k ≡ c → ⊥)
+from-start {c} {u} {v} {p} {q} {d} {p'} {q'} {d'} ep eq s =
+    let o = s .on in
+    let z : (e : ℕ) → d ≤ e → e - d + d ≡ e = λ e l. omega arith in
+    let along : (f : ℕ → ℕ) (a b e : ℕ) → d ≤ e → b ≡ steps f d a → steps f (e - d) b ≡ steps f e a =
+    λ f a b e l x. ap (steps f (e - d)) x ∙ sym (steps-add f (e - d) d a) ∙ ap (λ (n : ℕ). steps f n a) (z e l) in (
+      s .first ∙ along timesX2 u p d' o ep,
+      s .second ∙ along timesX v q d' o eq,
+      λ k l h e. s .none (k - d) (omega arith) (ap₂ bitXor (along timesX2 u p k l ep) (along timesX v q k l eq) ∙ e),
+    )
+
+mul-one : (a : ℕ) → a < 2 ^ 7 → mul a 1 ≡ a
+mul-one a h = mul-comm a 1 h (omega arith) ∙ one-mul a h
+
+first-term : (u k : ℕ) → u < 2 ^ 7 → steps timesX2 k u ≡ mul u (sq (alpha k))
+unfolding alpha
+first-term u zero h = sym (ap (mul u) (one-mul 1 (omega arith)) ∙ mul-one u h)
+first-term u (suc k) h = ap timesX2 (first-term u k h) ∙ sym (next-first u k h)
+
+second-term : (w k : ℕ) → w < 2 ^ 7 → steps timesX k w ≡ mul w (alpha k)
+unfolding alpha
+second-term w zero h = sym (mul-one w h)
+second-term w (suc k) h = ap timesX (second-term w k h) ∙ sym (next-second w k h)
+
+-- the sum of the terms is the locator
+value-is : (u k : ℕ) → u < 2 ^ 7 → valueAt u (mul u u) k ≡ loc u (alpha k)
+unfolding loc
+value-is u k h = ap₂ bitXor (first-term u k h) (second-term (mul u u) k (mul-lt u u))
+
+value-at : (u j : ℕ) → u < 2 ^ 7 → loc u (at j) ≡ valueAt u (mul u u) (66 - j)
+unfolding at
+value-at u j h = sym (value-is u (66 - j) h)
+
+-- ---- the answers
+
+module _ {s u v c sq1 : ℕ} (g : Syndromes s u v c) (e : sq1 ≡ mul u u) {p q d : ℕ} (f : NextRoot c u sq1 0 p q d) where
+  one : (p ≡ steps timesX2 d u) × (q ≡ steps timesX d sq1) × ((k : ℕ) → 0 ≤ k → k < d → valueAt u sq1 k ≡ c → ⊥)
+  one = from-start refl refl (f .passed)
+
+  value : (k : ℕ) → k < 67 → loc u (at (66 - k)) ≡ valueAt u sq1 k
+  value k h =
+      let z : 66 - (66 - k) ≡ k = omega arith in
+      value-at u (66 - k) (g .element) ∙ ap₂ (valueAt u) (sym e) z
+
+  root : d < 67 → loc u (at (66 - d)) ≡ c
+  root h = value d h ∙ sym (ap₂ bitXor (one .0) (one .1)) ∙ f .root h
+
+  -- no place is a root
+  pub none-found : 66 < d → (ps : List ℕ) → Rising 0 ps → length ps ≤ 2 → added ps ≡ s → ⊥
+  none-found h =
+      no-pair g 67 (λ l. absurd (omega arith))
+      (λ j a b n r. one .2 (66 - j) (omega arith) (omega arith) (ap (λ (w : ℕ). valueAt u w (66 - j)) e ∙ sym (value-at u j (g .element)) ∙ r))
+
+  -- one root, and it is the sum of the places: one place
+  pub one-found : d < 67 → c ≡ 0 → Rising 0 ((66 - d) ∷ []) × (added ((66 - d) ∷ []) ≡ s)
+  one-found h z = ((omega arith, omega arith, tt), one-root g (66 - d) (root h) z)
+
+  module _ {p1 q1 p2 q2 d2 : ℕ} (h : d < 67) (ep : p1 ≡ timesX2 p) (eq : q1 ≡ timesX q) (t : NextRoot c p1 q1 (d + 1) p2 q2 d2) where
+    other : (p2 ≡ steps timesX2 d2 u) × (q2 ≡ steps timesX d2 sq1) × ((k : ℕ) → d + 1 ≤ k → k < d2 → valueAt u sq1 k ≡ c → ⊥)
+    other =
+        let z : d + 1 ≡ suc d = omega arith in
+        from-start
+        (ep ∙ ap timesX2 (one .0) ∙ sym (ap (λ (n : ℕ). steps timesX2 n u) z))
+        (eq ∙ ap timesX (one .1) ∙ sym (ap (λ (n : ℕ). steps timesX n sq1) z)) (t .passed)
+
+    -- two roots: the two places
+    pub two-found : d2 < 67 → Rising 0 ((66 - d2) ∷ (66 - d) ∷ []) × (added ((66 - d2) ∷ (66 - d) ∷ []) ≡ s)
+    two-found l =
+        let o = t .passed .on in (
+          (omega arith, omega arith, (omega arith, omega arith, tt)),
+          two-roots g (66 - d2) (66 - d) (omega arith) (omega arith)
+              (value d2 l ∙ sym (ap₂ bitXor (other .0) (other .1)) ∙ t .root l) (root h),
+        )
+
+    -- a lone root, its partner in the shortened places: none
+    pub lone-found : 66 < d2 → (c ≡ 0 → ⊥) → (ps : List ℕ) → Rising 0 ps → length ps ≤ 2 → added ps ≡ s → ⊥
+    lone-found l z =
+        no-pair g (66 - d) (λ m. z)
+        (λ j a b n r.
+        by j b n (ap (λ (w : ℕ). valueAt u w (66 - j)) e ∙ sym (value-at u j (g .element)) ∙ r) (decLt (66 - j) d))
+      where
+        by : (j : ℕ) → j < 67 → (j ≡ 66 - d → ⊥) → valueAt u sq1 (66 - j) ≡ c → Dec (66 - j < d) → ⊥
+        by j b n r (yes m) = one .2 (66 - j) (omega arith) m r
+        by j b n r (no m) =
+            let y : 66 - j ≡ d → ⊥ = λ x. n (omega arith) in
+            other .2 (66 - j) (omega arith) (omega arith) r

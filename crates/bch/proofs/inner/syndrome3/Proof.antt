@@ -1,0 +1,68 @@
+-- `bch::inner::syndrome3` meets its contract: the sum so far, and Horner's rule on the digits left, make the whole. Assumes nothing.
+use native.Mathlib.Omega.{arith}
+use mathlib.Core.Path.{_≡_, refl, subst, sym}
+use Prim.Native.Nat.{ℕ, _<_, _%_, _^_}
+use lib.Bits.{bitXor}
+use Rattle.bch.specs.Field.{horner}
+use Rattle.bch.specs.Search.{timesX3, syn3}
+use Rattle.bch.proofs.Xor.{odd}
+use Rattle.bch.proofs.Field.{x3-additive, digit-lt, horner-next, horner-done}
+use borrow.Author.Needs.{needs}
+use Rattle.bch.proofs.inner.syndrome3.Statement.{statement}
+use Rattle.bch.proofs.inner.syndrome3.Tie as tie
+
+abbrev Inv-loop : tie.InvT-loop
+Inv-loop s sum₀ term₀ rest₀ left₀ sum term rest left = (term < 2 ^ 7) × (bitXor sum (horner timesX3 left term rest) ≡ syn3 s)
+
+abbrev μ-loop : tie.MeasureT-loop
+μ-loop s sum₀ term₀ rest₀ left₀ sum term rest left = left
+
+loop-holds : tie.Need-loop-holds Inv-loop μ-loop
+unfolding syn3
+loop-holds c = (omega arith, refl)
+
+cast-sum : tie.Need-cast-sum Inv-loop μ-loop
+cast-sum c = search needs
+
+mul-sum : tie.Need-mul-sum Inv-loop μ-loop
+mul-sum c =
+    let l = c .before .loop in omega (arith, digit-lt (l .rest % 2) (l .term) (odd (l .rest)) (l .inv .0))
+
+times-x3-requires : tie.Need-times-x3-requires Inv-loop μ-loop
+times-x3-requires c κs = c .before .loop .inv .0
+
+sub-left : tie.Need-sub-left Inv-loop μ-loop
+sub-left c = search needs
+
+loop-less : tie.Need-loop-less Inv-loop μ-loop
+loop-less c = search needs
+
+loop-again : tie.Need-loop-again Inv-loop μ-loop
+loop-again c =
+    let l = c .before .before .loop in
+    let z = c .before .before .before .args in (
+      subst (λ (x : ℕ). x < 2 ^ 7) (sym (c .times-x3 .ensures)) (x3-additive .lt (l .term) (l .inv .0)),
+      horner-next timesX3 x3-additive (l .sum) (l .term) (l .rest) (l .left) (syn3 (z .s)) (c .times-x3 .result) (l .inv .0)
+          (c .before .loop-test .taken) (c .times-x3 .ensures) (l .inv .1),
+    )
+
+returns : tie.Need-returns Inv-loop μ-loop
+returns c =
+    let l = c .before .loop in
+    let z = c .before .before .args in
+    horner-done timesX3 x3-additive (l .sum) (l .term) (l .rest) (l .left) (syn3 (z .s)) (c .loop-test .left) (l .inv .1)
+
+pub syndrome3-spec : {M : Type 1} → statement M
+syndrome3-spec =
+    tie.close
+    (tie.spec
+    Inv-loop
+    μ-loop
+    loop-holds
+    cast-sum
+    mul-sum
+    times-x3-requires
+    sub-left
+    loop-less
+    loop-again
+    returns)

@@ -1,0 +1,6 @@
+pub mod Poly
+pub mod Code
+pub mod Field
+pub mod Promise
+pub mod Inner
+pub mod Search

@@ -1,0 +1,60 @@
+-- Document 01, 'TPS' and 'Refusal numbers': what the encoder and the decoder answer, and what they leave in the lent output.
+use mathlib.Core.Path.{_≡_}
+use mathlib.Core.Bool.{Bool, true, _&&_}
+use mathlib.Core.List.{List, [], _∷_}
+use mathlib.Core.Logic.{_⊎_}
+use Prim.Native.Nat.{ℕ, zero, suc, _≤_}
+use lib.Dec.{eqb, ltb}
+use lib.ListN.{length, take}
+use Rattle.ground.specs.Refusal.{ACCEPTED, LENGTH, NOT-A-BIT, OUTPUT-SHORT, NO-WORD}
+use Rattle.ground.specs.Answer.{pick, counted, kept, written}
+use Rattle.ground.specs.declared.Counted.{Counted}
+use Rattle.bch.specs.Code.{Codeword, distance, encode}
+
+-- each item of a bit slice is at most 1, as a test
+abbrev pub areBits : List ℕ → Bool
+areBits [] = true
+areBits (b ∷ bs) = ltb b 2 && areBits bs
+
+-- the number of a call that takes `size` bits and writes `needs`: LENGTH, NOT A BIT, OUTPUT SHORT, in this order
+abbrev pub lentNo : ℕ → ℕ → List ℕ → List ℕ → ℕ
+lentNo size needs bits out =
+    pick (eqb (length bits) size) (pick (areBits bits) (pick (ltb (length out) needs) OUTPUT-SHORT ACCEPTED) NOT-A-BIT) LENGTH
+
+abbrev pub encodeNo : List ℕ → List ℕ → ℕ
+encodeNo info out = lentNo 53 67 info out
+
+-- what the encoder answers, and what it leaves
+abbrev pub encodeAnswer : List ℕ → List ℕ → Counted
+encodeAnswer info out = counted (encodeNo info out) 67
+
+abbrev pub encodeLeaves : List ℕ → List ℕ → List ℕ
+encodeLeaves info out = kept (encodeNo info out) (written (encode info) out) out
+
+-- ---- the decoder
+
+-- there is a codeword within distance two of the bits w: its 53 information bits are written
+pub record Corrected (w before : List ℕ) (answer : Counted) (after : List ℕ) : Type 0 where
+  pub word : List ℕ
+  pub codeword : Codeword word
+  pub near : distance word w ≤ 2
+  pub answers : answer ≡ counted ACCEPTED 53
+  pub leaves : after ≡ written (take 53 word) before
+
+-- a call with the number no is refused
+pub record Refuses (no : ℕ) (before : List ℕ) (answer : Counted) (after : List ℕ) : Type 0 where
+  pub answers : answer ≡ counted no 53
+  pub leaves : after ≡ before
+
+-- no codeword is within distance two of the bits w
+abbrev pub Lone : List ℕ → Type 0
+Lone w = (c : List ℕ) → Codeword c → distance c w ≤ 2 → ⊥
+
+-- the answer to 67 bits, with room for 53: that of a codeword within distance two, or NO WORD and there is none
+abbrev pub Answers : ℕ → List ℕ → List ℕ → Counted → List ℕ → Type 0
+Answers zero w before answer after = Corrected w before answer after ⊎ (Lone w × Refuses NO-WORD before answer after)
+Answers (suc k) w before answer after = Refuses (suc k) before answer after
+
+-- the decoder's promise: of the bits w, what stood in the lent output, the answer, and what is left in the output
+abbrev pub Decodes : List ℕ → List ℕ → Counted → List ℕ → Type 0
+Decodes w before answer after = Answers (lentNo 67 53 w before) w before answer after

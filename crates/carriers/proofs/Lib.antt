@@ -1,0 +1,14 @@
+pub mod Whole
+pub mod Walk
+pub mod Sequence
+pub mod Chosen
+pub mod Phases
+pub mod Facts
+pub mod Bins
+pub mod Spaced
+pub mod Cells
+pub mod Coding
+pub mod Roles
+pub mod Round
+pub mod Table
+pub mod SmallFacts

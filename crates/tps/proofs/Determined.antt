@@ -1,0 +1,200 @@
+-- Two answers that meet the promise of unpacking are equal, and so a packed word with at most two of s1..s67 wrong, and s0 either, is unpacked to itself.
+-- Assumes nothing.
+use mathlib.Core.Path.{_≡_, refl, sym, ap, _∙_, subst}
+use mathlib.Core.Logic.{inl, inr}
+use mathlib.Core.Bool.{Bool, true, false}
+use mathlib.Core.List.{List, map}
+use Prim.Native.Nat.{ℕ, zero, suc, _%_, _<_, _≤_, min}
+use native.Mathlib.Omega.{arith}
+use lib.Dec.{eqb, ltb}
+use lib.ListN.{length, take, drop, length-drop}
+use lib.Seq.{take-at}
+use borrow.Author.Tests.{eqb-true}
+use Rattle.ground.specs.Refusal.{ACCEPTED, LENGTH, NOT-A-BIT, INCOMPLETE}
+use Rattle.ground.specs.Answer.{pick}
+use Rattle.ground.specs.declared.Counted.{Counted}
+use Rattle.bch.specs.Poly.{Bits, digitsOf}
+use Rattle.bch.specs.Code.{distance, parity, encode}
+use Rattle.bch.specs.Promise.{areBits}
+use Rattle.bch.proofs.Digits.{bits-drop, small-digits}
+use Rattle.bch.proofs.Distance.{unique}
+use Rattle.bch.proofs.Encoding.{encode-codeword}
+use Rattle.bch.proofs.Checking.{bits-of, are-bits}
+use Rattle.tps.specs.declared.ConstellationOrder.{ConstellationOrder}
+use Rattle.tps.specs.declared.ConstellationOrder.the-variants.{Qpsk, Qam16, Qam64}
+use Rattle.tps.specs.declared.PunctureRate.{PunctureRate}
+use Rattle.tps.specs.declared.PunctureRate.the-variants.{«R1_2», «R2_3», «R3_4», «R5_6», «R7_8»}
+use Rattle.tps.specs.declared.GuardInterval.{GuardInterval}
+use Rattle.tps.specs.declared.GuardInterval.the-variants.{«G1_32», «G1_16», «G1_8», «G1_4»}
+use Rattle.tps.specs.declared.TpsWord.{TpsWord}
+use Rattle.tps.specs.declared.Unpacked.{Unpacked}
+use Rattle.tps.specs.declared.Unpacked.the-variants.{Word, Refused}
+use Rattle.tps.specs.Word.{constellationCode, rateCode, guardCode, fieldsOf, informationOf, wordBits, modulo4}
+use Rattle.tps.specs.Promise.{packAnswer, packLeaves, numberOf, Says, Reserved, Tells, UnpacksBy, Unpacks}
+use Rattle.tps.specs.declared.TpsDecoder.{TpsDecoder}
+use Rattle.tps.specs.Receive.{WordsBy, Words}
+use Rattle.tps.proofs.Fields.{fields-bits}
+use Rattle.tps.proofs.Packing.{information-length, pack-writes}
+use Rattle.tps.proofs.Unpacking.{accepted}
+
+-- ---- a code says one case, and is below its bound
+
+abbrev constellationBack : ℕ → ConstellationOrder
+constellationBack zero = Qpsk
+constellationBack (suc zero) = Qam16
+constellationBack (suc (suc n)) = Qam64
+
+constellation-back : (k : ConstellationOrder) → constellationBack (constellationCode k) ≡ k
+constellation-back Qpsk = refl
+constellation-back Qam16 = refl
+constellation-back Qam64 = refl
+
+constellation-small : (k : ConstellationOrder) → constellationCode k < 3
+constellation-small Qpsk = omega arith
+constellation-small Qam16 = omega arith
+constellation-small Qam64 = omega arith
+
+abbrev rateBack : ℕ → PunctureRate
+rateBack zero = «R1_2»
+rateBack (suc zero) = «R2_3»
+rateBack (suc (suc zero)) = «R3_4»
+rateBack (suc (suc (suc zero))) = «R5_6»
+rateBack (suc (suc (suc (suc n)))) = «R7_8»
+
+rate-back : (k : PunctureRate) → rateBack (rateCode k) ≡ k
+rate-back «R1_2» = refl
+rate-back «R2_3» = refl
+rate-back «R3_4» = refl
+rate-back «R5_6» = refl
+rate-back «R7_8» = refl
+
+rate-small : (k : PunctureRate) → rateCode k < 5
+rate-small «R1_2» = omega arith
+rate-small «R2_3» = omega arith
+rate-small «R3_4» = omega arith
+rate-small «R5_6» = omega arith
+rate-small «R7_8» = omega arith
+
+abbrev guardBack : ℕ → GuardInterval
+guardBack zero = «G1_32»
+guardBack (suc zero) = «G1_16»
+guardBack (suc (suc zero)) = «G1_8»
+guardBack (suc (suc (suc n))) = «G1_4»
+
+guard-back : (k : GuardInterval) → guardBack (guardCode k) ≡ k
+guard-back «G1_32» = refl
+guard-back «G1_16» = refl
+guard-back «G1_8» = refl
+guard-back «G1_4» = refl
+
+guard-small : (k : GuardInterval) → guardCode k < 4
+guard-small «G1_32» = omega arith
+guard-small «G1_16» = omega arith
+guard-small «G1_8» = omega arith
+guard-small «G1_4» = omega arith
+
+-- what has a way back from its code is told by its code
+by-code : {A : Type 0} (code : A → ℕ) (back : ℕ → A) (h : (k : A) → back (code k) ≡ k) (k l : A) (n : ℕ) → code k ≡ n → code l ≡ n → k ≡ l
+by-code code back h k l n e f = sym (h k) ∙ ap back (e ∙ sym f) ∙ h l
+
+-- ---- an information tells one answer
+
+abbrev make : ℕ → ConstellationOrder → PunctureRate → GuardInterval → ℕ → TpsWord
+make f c r g i = record { «frame_number» = f; constellation = c; «code_rate_hp» = r; guard = g; «cell_id» = i }
+
+says-one : (s : List ℕ) (w v : TpsWord) → Says s w → Says s v → w ≡ v
+says-one s w v h k =
+    let c = by-code constellationCode constellationBack constellation-back (w .constellation) (v .constellation) _ (h .constellation) (k .constellation) in
+    let r = by-code rateCode rateBack rate-back (w .«code_rate_hp») (v .«code_rate_hp») _ (h .rate) (k .rate) in
+    let g = by-code guardCode guardBack guard-back (w .guard) (v .guard) _ (h .guard) (k .guard) in
+    ap (λ (x : ℕ). make x (w .constellation) (w .«code_rate_hp») (w .guard) (w .«cell_id»)) (h .frame ∙ sym (k .frame))
+    ∙ ap (λ (x : ConstellationOrder). make (v .«frame_number») x (w .«code_rate_hp») (w .guard) (w .«cell_id»)) c
+    ∙ ap (λ (x : PunctureRate). make (v .«frame_number») (v .constellation) x (w .guard) (w .«cell_id»)) r
+    ∙ ap (λ (x : GuardInterval). make (v .«frame_number») (v .constellation) (v .«code_rate_hp») x (w .«cell_id»)) g
+    ∙ ap (λ (x : ℕ). make (v .«frame_number») (v .constellation) (v .«code_rate_hp») (v .guard) x) (h .cell ∙ sym (k .cell))
+
+not-reserved : (s : List ℕ) (w : TpsWord) → Says s w → Reserved s → ⊥
+not-reserved s w h (inl l) = omega (arith, l, h .constellation, constellation-small (w .constellation))
+not-reserved s w h (inr l) = omega (arith, l, h .rate, rate-small (w .«code_rate_hp»))
+
+tells-one : (s : List ℕ) (r q : Unpacked) → Tells s r → Tells s q → r ≡ q
+tells-one s (Word w) (Word v) h k = ap Word (says-one s w v h k)
+tells-one s (Word w) (Refused n) h k = absurd (not-reserved s w h (k .0))
+tells-one s (Refused m) (Word v) h k = absurd (not-reserved s v k (h .0))
+tells-one s (Refused m) (Refused n) h k = ap Refused (h .1 ∙ sym (k .1))
+
+refused-is : (r : Unpacked) (k : ℕ) → numberOf r ≡ suc k → r ≡ Refused (suc k)
+refused-is (Word w) k e = absurd (omega (arith, e))
+refused-is (Refused n) k e = ap Refused e
+
+refused-one : (r q : Unpacked) (k : ℕ) → numberOf r ≡ suc k → numberOf q ≡ suc k → r ≡ q
+refused-one r q k e f = refused-is r k e ∙ sym (refused-is q k f)
+
+-- ---- and so do the bits
+
+module _ (b : List ℕ) (r q : Unpacked) (hl : length b ≡ 68) (hb : Bits b) where
+  answers-one : UnpacksBy zero b r → UnpacksBy zero b q → r ≡ q
+  answers-one (inl h) (inl k) =
+      let e = unique (h .word) (k .word) (drop 1 b) (h .codeword) (k .codeword) (bits-drop 1 b hb) (length-drop 1 b ∙ omega arith) (h .near) (k .near) in
+      tells-one (take 53 (k .word)) r q (subst (λ (w : List ℕ). Tells (take 53 w) r) e (h .tells)) (k .tells)
+  answers-one (inl h) (inr k) = absurd (k .0 (h .word) (h .codeword) (h .near))
+  answers-one (inr h) (inl k) = absurd (h .0 (k .word) (k .codeword) (k .near))
+  answers-one (inr h) (inr k) = refused-one r q 3 (h .1) (k .1)
+
+by-tests : (b : List ℕ) (r q : Unpacked) (x y : Bool) → eqb (length b) 68 ≡ x → areBits b ≡ y
+    → UnpacksBy (pick x (pick y ACCEPTED NOT-A-BIT) LENGTH) b r → UnpacksBy (pick x (pick y ACCEPTED NOT-A-BIT) LENGTH) b q → r ≡ q
+by-tests b r q true true ex ey h k = answers-one b r q (eqb-true (length b) 68 ex) (bits-of b ey) h k
+by-tests b r q true false ex ey h k = refused-one r q 1 h k
+by-tests b r q false y ex ey h k = refused-one r q 0 h k
+
+-- two answers to the same bits, each as unpacking promises, are equal
+pub unpack-determined : (b : List ℕ) (r q : Unpacked) → Unpacks b r → Unpacks b q → r ≡ q
+unpack-determined b r q h k = by-tests b r q (eqb (length b) 68) (areBits b) refl refl h k
+
+words-by : (d : TpsDecoder) (r q : Unpacked) (x : Bool) → WordsBy (pick x INCOMPLETE ACCEPTED) d r → WordsBy (pick x INCOMPLETE ACCEPTED) d q → r ≡ q
+words-by d r q true h k = refused-one r q 7 h k
+words-by d r q false h k = unpack-determined (map (min 1) (d .bits)) r q h k
+
+-- and so are two answers of one receiver to a call for the word
+pub word-determined : (d : TpsDecoder) (r q : Unpacked) → Words d r → Words d q → r ≡ q
+word-determined d r q h k = words-by d r q (ltb (d .count) 68) h k
+
+pub pack-determined : (w : TpsWord) (o a b : List ℕ) (r q : Counted) → r ≡ packAnswer o → a ≡ packLeaves w o → q ≡ packAnswer o → b ≡ packLeaves w o
+    → (r ≡ q) × (a ≡ b)
+pack-determined w o a b r q er ea eq eb = (er ∙ sym eq, ea ∙ sym eb)
+
+-- ---- a packed word comes back
+
+-- the information of a word says the word, its frame number modulo 4
+pub information-says : (w : TpsWord) → w .«cell_id» < 256 → Says (informationOf w) (modulo4 w)
+information-says w h =
+    record {
+      frame = sym (small-digits 2 (w .«frame_number» % 4) (omega arith));
+      constellation = sym (small-digits 2 (constellationCode (w .constellation)) (omega (arith, constellation-small (w .constellation))));
+      rate = sym (small-digits 3 (rateCode (w .«code_rate_hp»)) (omega (arith, rate-small (w .«code_rate_hp»))));
+      guard = sym (small-digits 2 (guardCode (w .guard)) (omega (arith, guard-small (w .guard))));
+      cell = sym (small-digits 8 (w .«cell_id») h);
+    }
+
+module _ (w : TpsWord) (h : w .«cell_id» < 256) (b : List ℕ) (hb : Bits b) (hl : length b ≡ 68) where
+  near-word : distance (encode (informationOf w)) (drop 1 b) ≤ 2 → Unpacks b (Word (modulo4 w))
+  near-word n =
+      subst (λ (k : ℕ). UnpacksBy k b (Word (modulo4 w))) (sym (accepted b hl (are-bits b hb)))
+      (inl record {
+        word = encode (informationOf w);
+        codeword = encode-codeword (informationOf w) (fields-bits (fieldsOf w)) (information-length w);
+        near = n;
+        tells =
+            subst (λ (s : List ℕ). Says s (modulo4 w))
+            (sym (take-at (informationOf w) (digitsOf 14 (parity (informationOf w))) 53 (information-length w))) (information-says w h);
+      })
+
+  -- of a word's bits s0..s67, at most two of s1..s67 wrong and s0 either, unpacking answers the word, its frame number modulo 4
+  pub unpack-packed : (r : Unpacked) → distance (drop 1 (wordBits w)) (drop 1 b) ≤ 2 → Unpacks b r → r ≡ Word (modulo4 w)
+  unpack-packed r n k = unpack-determined b r (Word (modulo4 w)) k (near-word n)
+
+  -- the same of what packing leaves in an output with room for it
+  pub unpack-written : (o a : List ℕ) (r : Unpacked) → 68 ≤ length o → a ≡ packLeaves w o → distance (drop 1 (take 68 a)) (drop 1 b) ≤ 2
+      → Unpacks b r → r ≡ Word (modulo4 w)
+  unpack-written o a r room e n k =
+      unpack-packed r (subst (λ (l : List ℕ). distance (drop 1 l) (drop 1 b) ≤ 2) (ap (take 68) e ∙ pack-writes w o room) n) k

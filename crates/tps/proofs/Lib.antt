@@ -1,0 +1,9 @@
+pub mod Fields
+pub mod Packing
+pub mod Unpacking
+pub mod Determined
+pub mod Mapped
+pub mod Received
+pub mod Signs
+pub mod Sending
+pub mod Frame

@@ -1,0 +1,76 @@
+-- The receiver: the first cells of a slice, what a row of cells gives back, and the answers of feeding and of the word. Assumes nothing.
+use mathlib.Core.Path.{_≡_, refl, sym, ap, _∙_, subst}
+use mathlib.Core.List.{List, [], _∷_, _++_, map}
+use Prim.Native.Nat.{ℕ, zero, suc, _+_, _*_, _<_, _≤_, min}
+use native.Mathlib.Nat.{not-suc-le-zero, le-of-suc-le-suc}
+use native.Mathlib.Omega.{arith}
+use lib.Dec.{ltb}
+use lib.Ieee.{Float, nan}
+use lib.ListN.{length, getD, drop, set}
+use lib.Seq.{getD-drop}
+use borrow.Author.Tests.{lt-ltb, le-ltb, le-leb, lt-leb}
+use Rattle.ground.specs.Refusal.{ACCEPTED, LENGTH, FULL, INCOMPLETE}
+use Rattle.ground.specs.Answer.{pick}
+use Rattle.ground.specs.declared.Cell.{Cell}
+use Rattle.carriers.specs.Cells.{cellAt, flat}
+use Rattle.carriers.proofs.Cells.{cell-of}
+use Rattle.tps.specs.declared.TpsDecoder.{TpsDecoder}
+use Rattle.tps.specs.declared.TpsBit.the-variants.{Bit, Refused}
+use Rattle.tps.specs.declared.Unpacked.{Unpacked}
+use Rattle.tps.specs.declared.Unpacked.the-variants as unpacked
+use Rattle.tps.specs.Promise.{Unpacks}
+use Rattle.tps.specs.Receive.{firstCells, bitOf, feedNo, fedOf, WordsBy, Words}
+
+-- ---- cells
+
+pub cells-length : (n : ℕ) (s : List Float) → length (firstCells n s) ≡ n
+unfolding firstCells
+cells-length zero s = refl
+cells-length (suc n) s = ap suc (cells-length n (drop 2 s))
+
+cell-later : (s : List Float) (k : ℕ) → cellAt (drop 2 s) k ≡ cellAt s (suc k)
+cell-later s k =
+    let i : 2 + 2 * k ≡ 2 * suc k = omega arith in
+    let j : 2 + (2 * k + 1) ≡ 2 * suc k + 1 = omega arith in
+    cell-of (cellAt (drop 2 s) k) (cellAt s (suc k))
+    (getD-drop 2 s (2 * k) nan ∙ ap (λ (n : ℕ). getD s n nan) i)
+    (getD-drop 2 s (2 * k + 1) nan ∙ ap (λ (n : ℕ). getD s n nan) j)
+
+pub cells-at : (n : ℕ) (s : List Float) (k : ℕ) (z : Cell) → k < n → getD (firstCells n s) k z ≡ cellAt s k
+unfolding firstCells
+cells-at zero s k z h = absurd (not-suc-le-zero h)
+cells-at (suc n) s zero z h = refl
+cells-at (suc n) s (suc k) z h = cells-at n (drop 2 s) k z (le-of-suc-le-suc h) ∙ cell-later s k
+
+-- cells in a row are read back
+pub cells-back : (l : List Cell) (q : List Float) → firstCells (length l) (flat l ++ q) ≡ l
+unfolding firstCells flat
+cells-back [] q = refl
+cells-back (c ∷ l) q = ap (λ (r : List Cell). c ∷ r) (cells-back l q)
+
+-- ---- the answers
+
+module _ (d : TpsDecoder) (s : List Float) where
+  pub feed-length : length s < 34 → record { answer = Refused LENGTH; decoder = d } ≡ fedOf d s
+  feed-length h = simp (lt-ltb (length s) 34 h) refl
+
+  module _ (h : 34 ≤ length s) where
+    pub feed-full : 68 ≤ d .count → record { answer = Refused FULL; decoder = d } ≡ fedOf d s
+    feed-full l = simp (le-ltb (length s) 34 h, le-leb 68 (d .count) l) refl
+
+    pub feed-accepted : d .count < 68 → feedNo d s ≡ ACCEPTED
+    feed-accepted l = simp (le-ltb (length s) 34 h, lt-leb 68 (d .count) l) refl
+
+    pub feed-bit : d .count < 68 → (cells : List Cell) (bit : ℕ) → cells ≡ firstCells 17 s → bit ≡ bitOf (d .count) cells (d .prev)
+        → record { answer = Bit bit; decoder = record { prev = cells; bits = set (d .bits) (d .count) bit; count = d .count + 1 } } ≡ fedOf d s
+    feed-bit l cells bit ec eb = simp (eb, ec, le-ltb (length s) 34 h, lt-leb 68 (d .count) l) refl
+
+module _ (d : TpsDecoder) where
+  word-by : (n : ℕ) (r : Unpacked) → pick (ltb (d .count) 68) INCOMPLETE ACCEPTED ≡ n → WordsBy n d r → Words d r
+  word-by n r e h = subst (λ (k : ℕ). WordsBy k d r) (sym e) h
+
+  pub word-incomplete : d .count < 68 → Words d (unpacked.Refused INCOMPLETE)
+  word-incomplete h = word-by INCOMPLETE (unpacked.Refused INCOMPLETE) (simp (lt-ltb (d .count) 68 h) refl) refl
+
+  pub word-unpacks : 68 ≤ d .count → (r : Unpacked) (held : List ℕ) → held ≡ map (min 1) (d .bits) → Unpacks held r → Words d r
+  word-unpacks h r held e u = word-by ACCEPTED r (simp (le-ltb (d .count) 68 h) refl) (subst (λ (l : List ℕ). Unpacks l r) e u)

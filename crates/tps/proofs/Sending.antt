@@ -1,0 +1,30 @@
+-- The answers of sending, by the tests of a call. Assumes nothing.
+use mathlib.Core.Path.{_≡_, refl}
+use mathlib.Core.Bool.{true}
+use mathlib.Core.List.{List, map}
+use Prim.Native.Nat.{ℕ, _<_, _≤_}
+use lib.Ieee.{Float}
+use lib.ListN.{length}
+use borrow.Author.Tests.{lt-ltb, le-ltb}
+use Rattle.ground.specs.Refusal.{ACCEPTED, NOT-A-BIT, OUTPUT-SHORT}
+use Rattle.ground.specs.Answer.{written}
+use Rattle.ground.specs.declared.Counted.the-variants.{Count, Refused}
+use Rattle.carriers.specs.Cells.{flat}
+use Rattle.tps.specs.declared.TpsEncoder.{TpsEncoder}
+use Rattle.tps.specs.Send.{signCell, signsOf, sendNo, sentOf, sentLeaves}
+
+module _ (e : TpsEncoder) (bit : ℕ) (o : List Float) where
+  pub send-not-bit : 1 < bit → (record { answer = Refused NOT-A-BIT; encoder = e } ≡ sentOf e bit o) × (o ≡ sentLeaves e bit o)
+  send-not-bit h = (simp (lt-ltb 1 bit h) refl, simp (lt-ltb 1 bit h) refl)
+
+  module _ (h : bit ≤ 1) where
+    pub send-short : length o < 34 → (record { answer = Refused OUTPUT-SHORT; encoder = e } ≡ sentOf e bit o) × (o ≡ sentLeaves e bit o)
+    send-short l = (simp (le-ltb 1 bit h, lt-ltb (length o) 34 l) refl, simp (le-ltb 1 bit h, lt-ltb (length o) 34 l) refl)
+
+    module _ (l : 34 ≤ length o) where
+      pub send-accepted : sendNo bit o ≡ ACCEPTED
+      send-accepted = simp (le-ltb 1 bit h, le-ltb (length o) 34 l) refl
+
+      pub send-written : (signs : List Float) → signs ≡ signsOf e bit → (a : List Float) → a ≡ written (flat (map signCell signs)) o
+          → (record { answer = Count 17; encoder = record { signs = signs; started = true } } ≡ sentOf e bit o) × (a ≡ sentLeaves e bit o)
+      send-written signs es a ea = (simp (es, send-accepted) refl, simp (ea, es, send-accepted) refl)

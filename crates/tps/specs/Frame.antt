@@ -1,0 +1,38 @@
+-- Document 01, 'TPS': a frame that is sent and received, said over the two promises alone. Bits are newest first.
+use mathlib.Core.Path.{_≡_}
+use mathlib.Core.List.{List, [], _∷_, _++_}
+use Prim.Native.Nat.{ℕ, _<_, _≤_}
+use lib.Ieee.{Float}
+use lib.ListN.{length}
+use Rattle.tps.specs.declared.TpsEncoder.{TpsEncoder}
+use Rattle.tps.specs.declared.Sent.{Sent}
+use Rattle.tps.specs.declared.TpsDecoder.{TpsDecoder}
+use Rattle.tps.specs.declared.Fed.{Fed}
+use Rattle.tps.specs.Send.{freshEncoder, sentOf, sentLeaves}
+use Rattle.tps.specs.Receive.{freshDecoder, fedOf}
+
+-- one symbol: the bit is sent into an output with room for 17 cells, and what is left there is fed
+pub record Symbol (bit : ℕ) (e : TpsEncoder) (d : TpsDecoder) (e′ : TpsEncoder) (d′ : TpsDecoder) : Type 0 where
+  pub out : List Float
+  pub left : List Float
+  pub sent : Sent
+  pub fed : Fed
+  pub isBit : bit < 2
+  pub room : 34 ≤ length out
+  pub sends : sent ≡ sentOf e bit out
+  pub leaves : left ≡ sentLeaves e bit out
+  pub feeds : fed ≡ fedOf d left
+  pub sender : e′ ≡ sent .encoder
+  pub receiver : d′ ≡ fed .decoder
+
+-- the bits bs, newest first, were sent by a fresh sender and fed to a fresh receiver
+pub data Frame : List ℕ → TpsEncoder → TpsDecoder → Type 0 where
+  start : {e : TpsEncoder} {d : TpsDecoder} → e ≡ freshEncoder → d ≡ freshDecoder → Frame [] e d
+  next : {bs : List ℕ} {e : TpsEncoder} {d : TpsDecoder} (bit : ℕ) {e′ : TpsEncoder} {d′ : TpsDecoder}
+      → Frame bs e d → Symbol bit e d e′ d′ → Frame (bit ∷ bs) e′ d′
+
+-- the bits as they are read, oldest first: s0 reads 0
+unfoldable pub readBits : List ℕ → List ℕ
+readBits [] = []
+readBits (b ∷ []) = 0 ∷ []
+readBits (b ∷ c ∷ bs) = readBits (c ∷ bs) ++ (b ∷ [])

@@ -1,0 +1,6 @@
+pub mod Word
+pub mod Promise
+pub mod Inner
+pub mod Send
+pub mod Receive
+pub mod Frame

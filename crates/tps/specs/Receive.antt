@@ -1,0 +1,83 @@
+-- Document 01, 'TPS', receiving; EN 300 744, 4.6.3: symbol 0 gives bit 0; later the bit is 1 when the sum over 17 carriers of re*prev.re - im*(-prev.im)
+-- is below zero, summed in order from +0.0 in f32. A NaN sum gives 0. A 69th symbol is FULL.
+use mathlib.Core.Path.{_≡_}
+use mathlib.Core.List.{List, [], _∷_, map}
+use Prim.Native.Nat.{ℕ, zero, suc, _+_, min}
+use lib.Dec.{eqb, ltb, leb}
+use lib.Ieee.{Float, nan, binary32, add, sub, mul, neg, lt}
+use lib.ListN.{length, getD, drop, set, replicate}
+use Rattle.ground.specs.Refusal.{ACCEPTED, LENGTH, FULL, INCOMPLETE}
+use Rattle.ground.specs.Answer.{pick, kept}
+use Rattle.ground.specs.declared.Cell.{Cell}
+use Rattle.carriers.specs.Cells.{cellAt}
+use Rattle.carriers.specs.Pilots.{null}
+use Rattle.tps.specs.declared.TpsDecoder.{TpsDecoder}
+use Rattle.tps.specs.declared.TpsBit.{TpsBit}
+use Rattle.tps.specs.declared.TpsBit.the-variants.{Bit, Refused}
+use Rattle.tps.specs.declared.Fed.{Fed}
+use Rattle.tps.specs.declared.Unpacked.{Unpacked}
+use Rattle.tps.specs.Promise.{numberOf, Unpacks}
+
+-- the first n cells of a lent slice, re and im in turn
+unfoldable pub firstCells : ℕ → List Float → List Cell
+firstCells zero s = []
+firstCells (suc n) s = cellAt s 0 ∷ firstCells n (drop 2 s)
+
+-- what stands at a place where there is no cell
+abbrev pub noCell : Cell
+noCell = record { re = nan; im = nan }
+
+-- re*prev.re - im*(-prev.im), each operation rounded once
+unfoldable pub product : Cell → Cell → Float
+product c p = sub binary32 (mul binary32 (c .re) (p .re)) (mul binary32 (c .im) (neg (p .im)))
+
+-- the sum over the first k carriers, in order from +0.0
+unfoldable pub correlation : ℕ → List Cell → List Cell → Float
+correlation zero cells prev = null
+correlation (suc k) cells prev = add binary32 (correlation k cells prev) (product (getD cells k noCell) (getD prev k noCell))
+
+-- the bit of the symbol that is fed when n stand
+unfoldable pub bitOf : ℕ → List Cell → List Cell → ℕ
+bitOf n cells prev = pick (eqb n 0) 0 (pick (lt (correlation 17 cells prev) null) 1 0)
+
+abbrev pub freshDecoder : TpsDecoder
+freshDecoder = record { prev = replicate 17 (record { re = null; im = null }); bits = replicate 68 0; count = 0 }
+
+-- a count above 68 is treated as 68, so that it is FULL
+abbrev pub feedNo : TpsDecoder → List Float → ℕ
+feedNo d cells = pick (ltb (length cells) 34) LENGTH (pick (leb 68 (d .count)) FULL ACCEPTED)
+
+-- document 01's number and the bit, for each case of an answer
+abbrev pub bitNumber : TpsBit → ℕ
+bitNumber (Bit b) = ACCEPTED
+bitNumber (Refused k) = k
+
+abbrev pub bitIn : TpsBit → ℕ
+bitIn (Bit b) = b
+bitIn (Refused k) = 0
+
+-- the answer of a call whose number is no: the bit where it is 0, else the refusal
+abbrev pub bitAnswer : ℕ → ℕ → TpsBit
+bitAnswer zero b = Bit b
+bitAnswer (suc k) b = Refused (suc k)
+
+abbrev pub fedBit : TpsDecoder → List Float → ℕ
+fedBit d cells = bitOf (d .count) (firstCells 17 cells) (d .prev)
+
+-- what feeding a symbol answers, with the receiver after it
+abbrev pub fedOf : TpsDecoder → List Float → Fed
+fedOf d cells =
+    record {
+      answer = bitAnswer (feedNo d cells) (fedBit d cells);
+      decoder =
+          kept (feedNo d cells)
+          (record { prev = firstCells 17 cells; bits = set (d .bits) (d .count) (fedBit d cells); count = d .count + 1 }) d;
+    }
+
+-- the answer to a call for the word: INCOMPLETE with fewer than 68, else that of unpacking the held bits, one above 1 treated as 1
+abbrev pub WordsBy : ℕ → TpsDecoder → Unpacked → Type 0
+WordsBy zero d answer = Unpacks (map (min 1) (d .bits)) answer
+WordsBy (suc k) d answer = numberOf answer ≡ suc k
+
+abbrev pub Words : TpsDecoder → Unpacked → Type 0
+Words d answer = WordsBy (pick (ltb (d .count) 68) INCOMPLETE ACCEPTED) d answer
