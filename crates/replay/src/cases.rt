@@ -7,7 +7,7 @@ use dispersal::DvbTEnergyDispersal;
 use ground::Counted;
 
 // What stands where nothing may be written.
-pub const UNTOUCHED: u8 = 0xA5;
+pub(crate) const UNTOUCHED: u8 = 0xA5;
 
 // Whether the front of a slice is the output, and what is behind it is untouched.
 fn front_is(output: &[u8], slice: &[u8]) -> bool {
@@ -31,7 +31,13 @@ fn front_is(output: &[u8], slice: &[u8]) -> bool {
 }
 
 // Whether an answer is the refusal, or where there is none the count; and what is left in the slice.
-pub fn is_right(answer: Counted, refusal: u8, count: usize, output: &[u8], slice: &[u8]) -> bool {
+pub(crate) fn is_right(
+    answer: Counted,
+    refusal: u8,
+    count: usize,
+    output: &[u8],
+    slice: &[u8],
+) -> bool {
     match answer {
         Counted::Count(n) => {
             if refusal != 0 {
@@ -121,7 +127,13 @@ fn feed(before: usize, input: &[u8], output: &[u8], slice: &mut [u8]) -> bool
 }
 
 // Whether the answer of a function is the refusal or the output.
-pub fn is_met(function: usize, number: usize, input: &[u8], refusal: u8, output: &[u8]) -> bool {
+pub(crate) fn is_met(
+    function: usize,
+    number: usize,
+    input: &[u8],
+    refusal: u8,
+    output: &[u8],
+) -> bool {
     let mut room = [0u8; 4096];
     let slice: &mut [u8] = &mut room;
     if slice.len() < input.len() {

@@ -48,7 +48,7 @@ fn is_float(x: f32, output: &[u8], at: usize) -> bool {
 }
 
 // dvb_t_map_symbol.
-pub fn map(input: &[u8], refusal: u8, output: &[u8]) -> bool {
+pub(crate) fn map(input: &[u8], refusal: u8, output: &[u8]) -> bool {
     match gray::dvb_t_map_symbol(input) {
         Mapped::Point(re, im) => {
             if output.len() != 8 {
@@ -74,7 +74,7 @@ fn cell_of(input: &[u8]) -> Cell
 }
 
 // dvb_t_demap_symbol.
-pub fn demap(v: usize, input: &[u8], refusal: u8, output: &[u8], slice: &mut [u8]) -> bool {
+pub(crate) fn demap(v: usize, input: &[u8], refusal: u8, output: &[u8], slice: &mut [u8]) -> bool {
     if input.len() != 8 {
         return false;
     }
@@ -94,7 +94,7 @@ fn are_floats(x: f32, y: f32, output: &[u8], at: usize) -> bool
 }
 
 // dvb_t_soft_llr.
-pub fn soft(v: usize, input: &[u8], refusal: u8, output: &[u8]) -> bool {
+pub(crate) fn soft(v: usize, input: &[u8], refusal: u8, output: &[u8]) -> bool {
     if input.len() != 8 {
         return false;
     }

@@ -12,7 +12,7 @@ pub enum Outcome {
 }
 
 // Where the byte `end` stands at or behind `from`, or the text's length.
-pub fn end_of(text: &[u8], from: usize, end: u8) -> usize
+pub(crate) fn end_of(text: &[u8], from: usize, end: u8) -> usize
     requires { ⌜ from ≤ length (now text) ⌝ }
     ensures { λ r. ⌜ (from ≤ r) × (r ≤ length (now (text .entry))) ⌝ }
 {
@@ -210,7 +210,7 @@ fn start_of(text: &[u8]) -> usize
 }
 
 // What the line comes to; its bytes are read into the two slices.
-pub fn replayed(text: &[u8], given: &mut [u8], wanted: &mut [u8]) -> Outcome {
+pub(crate) fn replayed(text: &[u8], given: &mut [u8], wanted: &mut [u8]) -> Outcome {
     let from = start_of(text);
     let name_end = end_of(text, from, b' ');
     let number = behind(text, name_end);

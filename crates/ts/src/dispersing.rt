@@ -44,7 +44,7 @@ fn disperse_packet(place: usize, outputs: &[u8], packet: &mut [u8])
 }
 
 // Disperses whole packets, each group of eight from the outputs' beginning.
-pub fn disperse_packets(outputs: &[u8], packets: &mut [u8])
+pub(crate) fn disperse_packets(outputs: &[u8], packets: &mut [u8])
     requires { ⌜ (now outputs ≡ stream 1504 start) × (length (now packets) % 188 ≡ 0) ⌝ }
     ensures { λ _. ⌜ now (packets .exit) ≡ dispersed (now (packets .entry)) ⌝ }
 {
