@@ -130,7 +130,8 @@ put-none : (x y k : ℕ) (ps : List ℕ) (b : Bool) → eqb x y ≡ b → pick b
 put-none x y k ps true e f = (eqb-true x y e, f)
 put-none x y k ps false e f = let g : suc (length ps) ≡ 0 = ap length f in absurd (omega arith)
 
-nothing : (k : ℕ) (xs ys : List ℕ) → Bits xs → Bits ys → length xs ≡ length ys → places k xs ys ≡ [] → xs ≡ ys
+-- two lists that differ in no place are equal
+pub nothing : (k : ℕ) (xs ys : List ℕ) → Bits xs → Bits ys → length xs ≡ length ys → places k xs ys ≡ [] → xs ≡ ys
 nothing k [] [] hx hy hl e = refl
 nothing k [] (y ∷ ys) hx hy hl e = absurd (omega arith)
 nothing k (x ∷ xs) [] hx hy hl e = absurd (omega arith)

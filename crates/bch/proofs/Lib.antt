@@ -19,4 +19,5 @@ pub mod Checking
 pub mod Writing
 pub mod Answering
 pub mod Determined
+pub mod Near
 pub mod Facts

@@ -52,7 +52,7 @@ found-at k b ps = pick b ps (k ∷ ps)
 turned-ne : (y : ℕ) → y < 2 → eqb (1 - y) y ≡ false
 turned-ne y h = ne-eqb (1 - y) y (λ e. omega arith)
 
-places-self : (k : ℕ) (ys : List ℕ) → places k ys ys ≡ []
+pub places-self : (k : ℕ) (ys : List ℕ) → places k ys ys ≡ []
 places-self k [] = refl
 places-self k (y ∷ ys) = ap₂ (found-at k) (eq-eqb y y refl) (places-self (suc k) ys)
 

@@ -6,6 +6,7 @@ ghost use lib.ListN.{length, take};
 ghost use Rattle.bch.specs.Poly.{Bits, digitsOf, valueOf};
 ghost use Rattle.bch.specs.Code.{remainderOf, parity, encode};
 ghost use Rattle.bch.specs.Field.{timesX, horner, mul};
+ghost use Rattle.bch.specs.Promise.{areBits};
 ghost use Rattle.bch.specs.Inner.{flip, mended, Changes};
 ghost use Rattle.bch.specs.Search.{folded, timesX2, timesX3, timesX4, syn1, syn3, Syndromes, Passed, NextRoot, Locates};
 
@@ -15,6 +16,21 @@ pub enum Found {
     One(usize),
     Two(usize, usize),
     NoWord,
+}
+
+// ---- bits
+
+// Whether each item of a bit slice is 0 or 1.
+pub fn all_bits(bits: &[u8]) -> bool
+    ensures { λ r. ⌜ r ≡ areBits (now (bits .entry)) ⌝ }
+{
+    let mut seen: u8 = 0;
+    let mut i: usize = 0;
+    while i < bits.len() {
+        seen = seen | bits[i];
+        i += 1;
+    }
+    seen < 2
 }
 
 // ---- remainders by the generator
@@ -309,7 +325,7 @@ fn copy(bits: &[u8], out: &mut [u8])
 }
 
 // The low digits of a number, highest first, as many as there is room for.
-fn put_digits(number: u64, out: &mut [u8])
+pub fn put_digits(number: u64, out: &mut [u8])
     requires { ⌜ length (now out) ≤ 64 ⌝ }
     ensures { λ r. ⌜ now (out .exit) ≡ digitsOf (length (now (out .entry))) number ⌝ }
 {

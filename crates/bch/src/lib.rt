@@ -1,23 +1,10 @@
 // The TPS code BCH(67,53): its encoder and its decoder (EN 300 744, 4.6.2.11).
 ghost use mathlib.Core.Path.{_≡_};
-ghost use Rattle.bch.specs.Promise.{areBits, encodeAnswer, encodeLeaves, Decodes};
+ghost use Rattle.bch.specs.Promise.{encodeAnswer, encodeLeaves, Decodes};
 use ground::Counted;
 use inner::Found;
 
 pub mod inner;
-
-// Whether each item of a bit slice is 0 or 1.
-fn all_bits(bits: &[u8]) -> bool
-    ensures { λ r. ⌜ r ≡ areBits (now (bits .entry)) ⌝ }
-{
-    let mut seen: u8 = 0;
-    let mut i: usize = 0;
-    while i < bits.len() {
-        seen = seen | bits[i];
-        i += 1;
-    }
-    seen < 2
-}
 
 // The 67 bits of the codeword of 53 information bits, written to the lent output (EN 300 744, 4.6.2.11).
 pub fn tps_bch_encode(info: &[u8], out: &mut [u8]) -> Counted
@@ -27,7 +14,7 @@ pub fn tps_bch_encode(info: &[u8], out: &mut [u8]) -> Counted
     if info.len() != 53 {
         return Counted::Refused(ground::LENGTH);
     }
-    if !all_bits(info) {
+    if !inner::all_bits(info) {
         return Counted::Refused(ground::NOT_A_BIT);
     }
     if out.len() < 67 {
@@ -44,7 +31,7 @@ pub fn tps_bch_decode(code: &[u8], out: &mut [u8]) -> Counted
     if code.len() != 67 {
         return Counted::Refused(ground::LENGTH);
     }
-    if !all_bits(code) {
+    if !inner::all_bits(code) {
         return Counted::Refused(ground::NOT_A_BIT);
     }
     if out.len() < 53 {

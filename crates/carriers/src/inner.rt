@@ -13,7 +13,7 @@ use super::tables::TPS_PILOTS;
 use ground::Cell;
 ghost use mathlib.Core.Path.{_≡_};
 ghost use mathlib.Core.List.{map};
-ghost use Prim.Native.Nat.{_+_, _*_, _<_};
+ghost use Prim.Native.Nat.{_+_, _*_, _%_, _<_};
 ghost use lib.ListN.{length};
 ghost use Rattle.carriers.specs.Cells.{cellAt, setCell};
 ghost use Rattle.carriers.specs.Mode.{mode2k};
@@ -57,31 +57,48 @@ pub fn boost(w: u16) -> Cell
 }
 
 // The data bins of phase 0.
-pub fn data_row_0() -> [u16; 1512]
+fn data_row_0() -> [u16; 1512]
     ensures { λ r. ⌜ r ≡ dataBins mode2k 0 ⌝ }
 {
     DATA_BINS_0
 }
 
 // The data bins of phase 1.
-pub fn data_row_1() -> [u16; 1512]
+fn data_row_1() -> [u16; 1512]
     ensures { λ r. ⌜ r ≡ dataBins mode2k 1 ⌝ }
 {
     DATA_BINS_1
 }
 
 // The data bins of phase 2.
-pub fn data_row_2() -> [u16; 1512]
+fn data_row_2() -> [u16; 1512]
     ensures { λ r. ⌜ r ≡ dataBins mode2k 2 ⌝ }
 {
     DATA_BINS_2
 }
 
 // The data bins of phase 3.
-pub fn data_row_3() -> [u16; 1512]
+fn data_row_3() -> [u16; 1512]
     ensures { λ r. ⌜ r ≡ dataBins mode2k 3 ⌝ }
 {
     DATA_BINS_3
+}
+
+// The data bins of a phase, which is taken modulo 4.
+pub fn data_row(phase: usize) -> [u16; 1512]
+    ensures { λ r. ⌜ r ≡ dataBins mode2k (phase % 4) ⌝ }
+{
+    let q = phase % 4;
+    if q == 0 {
+        return data_row_0();
+    }
+    if q == 1 {
+        return data_row_1();
+    }
+    if q == 2 {
+        return data_row_2();
+    }
+    data_row_3()
 }
 
 // The data bins of the static grid.
@@ -92,31 +109,48 @@ pub fn static_table() -> [u16; 1660]
 }
 
 // The reference pilots of phase 0.
-pub fn reference_row_0() -> [u16; 176]
+fn reference_row_0() -> [u16; 176]
     ensures { λ r. ⌜ r ≡ map (coded mode2k) (referenceActives mode2k 0) ⌝ }
 {
     REFERENCE_PILOTS_0
 }
 
 // The reference pilots of phase 1.
-pub fn reference_row_1() -> [u16; 176]
+fn reference_row_1() -> [u16; 176]
     ensures { λ r. ⌜ r ≡ map (coded mode2k) (referenceActives mode2k 1) ⌝ }
 {
     REFERENCE_PILOTS_1
 }
 
 // The reference pilots of phase 2.
-pub fn reference_row_2() -> [u16; 176]
+fn reference_row_2() -> [u16; 176]
     ensures { λ r. ⌜ r ≡ map (coded mode2k) (referenceActives mode2k 2) ⌝ }
 {
     REFERENCE_PILOTS_2
 }
 
 // The reference pilots of phase 3.
-pub fn reference_row_3() -> [u16; 176]
+fn reference_row_3() -> [u16; 176]
     ensures { λ r. ⌜ r ≡ map (coded mode2k) (referenceActives mode2k 3) ⌝ }
 {
     REFERENCE_PILOTS_3
+}
+
+// The reference pilots of a phase, which is taken modulo 4.
+pub fn reference_row(phase: usize) -> [u16; 176]
+    ensures { λ r. ⌜ r ≡ map (coded mode2k) (referenceActives mode2k (phase % 4)) ⌝ }
+{
+    let q = phase % 4;
+    if q == 0 {
+        return reference_row_0();
+    }
+    if q == 1 {
+        return reference_row_1();
+    }
+    if q == 2 {
+        return reference_row_2();
+    }
+    reference_row_3()
 }
 
 // The TPS carriers as pilots.

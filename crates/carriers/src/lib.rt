@@ -163,31 +163,6 @@ fn copy_to(list: &[u16], out: &mut [u16])
     }
 }
 
-// The data bins of a phase at the front of the lent output.
-fn copy_row(phase: usize, out: &mut [u16])
-    requires { ⌜ 1512 ≤ length (now out) ⌝ }
-    ensures { λ _. ⌜ now (out .exit) ≡ written (dataBins mode2k (phase % 4)) (now (out .entry)) ⌝ }
-{
-    let q = phase % 4;
-    if q == 0 {
-        let row = inner::data_row_0();
-        copy_to(&row, out);
-        return;
-    }
-    if q == 1 {
-        let row = inner::data_row_1();
-        copy_to(&row, out);
-        return;
-    }
-    if q == 2 {
-        let row = inner::data_row_2();
-        copy_to(&row, out);
-        return;
-    }
-    let row = inner::data_row_3();
-    copy_to(&row, out);
-}
-
 // The bins of the 1,512 data carriers of a phase, in rising active order.
 pub fn data_bins(phase: usize, out: &mut [u16]) -> Counted
     ensures { λ r. ⌜ r ≡ counted (roomNo (mode2k .dataCount) (now (out .entry))) (mode2k .dataCount) ⌝ }
@@ -196,7 +171,8 @@ pub fn data_bins(phase: usize, out: &mut [u16]) -> Counted
     if out.len() < 1512 {
         return Counted::Refused(ground::OUTPUT_SHORT);
     }
-    copy_row(phase, out);
+    let row = inner::data_row(phase);
+    copy_to(&row, out);
     Counted::Count(1512)
 }
 
@@ -254,32 +230,6 @@ fn decode(codes: &[u16], bins: &mut [u16], values: &mut [f32])
     }
 }
 
-// The bins and the boosted values of a phase's reference pilots at the fronts of the two lent outputs.
-fn decode_row(phase: usize, bins: &mut [u16], values: &mut [f32])
-    requires { ⌜ (176 ≤ length (now bins)) × (352 ≤ length (now values)) ⌝ }
-    ensures { λ _. ⌜ now (bins .exit) ≡ written (referenceBins mode2k (phase % 4)) (now (bins .entry)) ⌝ }
-    ensures { λ _. ⌜ now (values .exit) ≡ written (pilotCells (referenceActives mode2k (phase % 4))) (now (values .entry)) ⌝ }
-{
-    let q = phase % 4;
-    if q == 0 {
-        let row = inner::reference_row_0();
-        decode(&row, bins, values);
-        return;
-    }
-    if q == 1 {
-        let row = inner::reference_row_1();
-        decode(&row, bins, values);
-        return;
-    }
-    if q == 2 {
-        let row = inner::reference_row_2();
-        decode(&row, bins, values);
-        return;
-    }
-    let row = inner::reference_row_3();
-    decode(&row, bins, values);
-}
-
 // The bins and the boosted values of the 176 reference pilots of a phase, in rising active order, TPS left out (orion-sdr's current_pilot_bins).
 pub fn reference_pilot_bins(phase: usize, bins: &mut [u16], values: &mut [f32]) -> Counted
     ensures { λ r. ⌜ r ≡ counted (pilotsNo mode2k (now (bins .entry)) (now (values .entry))) (mode2k .referenceCount) ⌝ }
@@ -292,6 +242,7 @@ pub fn reference_pilot_bins(phase: usize, bins: &mut [u16], values: &mut [f32]) 
     if values.len() < 352 {
         return Counted::Refused(ground::OUTPUT_SHORT);
     }
-    decode_row(phase, bins, values);
+    let row = inner::reference_row(phase);
+    decode(&row, bins, values);
     Counted::Count(176)
 }

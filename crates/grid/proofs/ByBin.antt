@@ -11,6 +11,7 @@ use lib.Ieee.{Float, nan}
 use lib.ListN.{length, getD, drop, replicate, length-append, length-replicate, length-drop, length-map, getD-replicate, List·getD-append, List·getD-map}
 use lib.Seq.{drop-at}
 use borrow.Author.Tests.{ltb-true, ltb-false}
+use Rattle.ground.proofs.Mapped.{map-at}
 use Rattle.ground.specs.Answer.{pick}
 use Rattle.ground.specs.declared.Cell.{Cell}
 use Rattle.carriers.specs.Mode.{Mode}
@@ -21,7 +22,7 @@ use Rattle.carriers.specs.Cells.{cellAt}
 use Rattle.carriers.specs.Pilots.{null, pilotCell, pilotCells}
 use Rattle.carriers.proofs.Chosen.{Rising, chosen-pass, chosen-rise, chosen-rank, among-chosen, stands}
 use Rattle.carriers.proofs.Facts.{Facts}
-use Rattle.carriers.proofs.Bins.{bin-lt, bin-apart, map-at}
+use Rattle.carriers.proofs.Bins.{bin-lt, bin-apart}
 use Rattle.carriers.proofs.Cells.{cell-of, flat-at}
 use Rattle.carriers.proofs.Coding.{Below}
 use Rattle.carriers.proofs.Roles.{bins-disjoint}
@@ -60,7 +61,7 @@ module _ (m : Mode) (f : Facts m) (x : List ℕ) (below : Below (m .actives) x) 
   stored-length = placed-length (map (binOf m) x) e o (length x)
 
   bin-at : (k : ℕ) → k < length x → getD (map (binOf m) x) k 0 ≡ binOf m (getD x k 0)
-  bin-at k h = map-at (binOf m) x k h
+  bin-at k h = map-at (binOf m) x k 0 0 h
 
   -- the bin of a carrier that is not among them
   stored-other : (a : ℕ) → a < m .actives → among a x ≡ false → cellAt (stored m x e o) (binOf m a) ≡ cellAt o (binOf m a)

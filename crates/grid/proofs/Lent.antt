@@ -6,21 +6,22 @@ use Prim.Native.Nat.{ℕ, _%_, _<_}
 use native.Mathlib.Omega.{arith}
 use lib.Ieee.{Float}
 use lib.ListN.{length, getD, length-map}
+use Rattle.ground.proofs.Mapped.{map-at}
 use Rattle.carriers.specs.Mode.{Mode, mode2k}
 use Rattle.carriers.specs.Count.{binOf}
-use Rattle.carriers.specs.Carriers.{dataActives, staticActives, dataBins, staticBins}
+use Rattle.carriers.specs.Carriers.{dataActives, staticActives, dataBins, staticBins, tpsBins}
 use Rattle.carriers.specs.Pilots.{coded, codeBin, codeCells, pilotCells}
 use Rattle.carriers.proofs.Facts.{Facts, facts2k}
-use Rattle.carriers.proofs.Bins.{bin-lt, map-at, data-bins-many}
+use Rattle.carriers.proofs.Bins.{bin-lt, data-bins-many}
 use Rattle.carriers.proofs.Coding.{Below, code-bins, code-cells}
-use Rattle.carriers.proofs.Roles.{data-below, static-below}
+use Rattle.carriers.proofs.Roles.{data-below, static-below, tps-below}
 use Rattle.grid.specs.Symbol.{Bins, placed, stored, piloted}
 
 module _ (m : Mode) (f : Facts m) where
   bins-in : (l : List ℕ) → Below (m .actives) l → Bins m (map (binOf m) l)
   bins-in l b k h =
       let i : k < length l = omega (arith, length-map l (binOf m)) in
-      subst (λ (x : ℕ). x < m .bins) (sym (map-at (binOf m) l k i)) (bin-lt m f (getD l k 0) (b k i))
+      subst (λ (x : ℕ). x < m .bins) (sym (map-at (binOf m) l k 0 0 i)) (bin-lt m f (getD l k 0) (b k i))
 
   pub data-bins-in : (p : ℕ) → Bins m (dataBins m p)
   unfolding dataBins
@@ -29,6 +30,10 @@ module _ (m : Mode) (f : Facts m) where
   pub static-bins-in : Bins m (staticBins m)
   unfolding staticBins
   static-bins-in = bins-in (staticActives m) (static-below m f)
+
+  pub tps-bins-in : Bins m (tpsBins m)
+  unfolding tpsBins
+  tps-bins-in = bins-in (m .tps) (tps-below m f)
 
   -- pilots as numbers, set
   pub codes-piloted : (l codes : List ℕ) → Below (m .actives) l → codes ≡ map (coded m) l → (o : List Float)
@@ -48,5 +53,5 @@ module _ (m : Mode) (f : Facts m) where
 pub lent-bins : (l r : List ℕ) (n : ℕ) → l ≡ r → Bins mode2k r → length r ≡ n → Bins mode2k l × (length l ≡ n)
 lent-bins l r n e b i = (subst (Bins mode2k) (sym e) b, ap length e ∙ i)
 
-pub lent-row : (p i : ℕ) (l : List ℕ) → p % 4 ≡ i → l ≡ dataBins mode2k i → Bins mode2k l × (length l ≡ 1512)
-lent-row p i l e r = lent-bins l (dataBins mode2k i) 1512 r (data-bins-in mode2k facts2k i) (data-bins-many mode2k facts2k i (omega arith))
+pub lent-row : (p : ℕ) (l : List ℕ) → l ≡ dataBins mode2k (p % 4) → Bins mode2k l × (length l ≡ 1512)
+lent-row p l r = lent-bins l (dataBins mode2k (p % 4)) 1512 r (data-bins-in mode2k facts2k (p % 4)) (data-bins-many mode2k facts2k (p % 4) (omega arith))

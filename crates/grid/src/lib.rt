@@ -1,5 +1,4 @@
 // The pilot grid of the DVB-T 2K mode (EN 300 744, 4.5): data cells into a symbol and out of it, phase by phase, and the static grid.
-use carriers::inner;
 use ground::Counted;
 ghost use mathlib.Core.Path.{_≡_};
 ghost use mathlib.Core.List.{map};
@@ -12,6 +11,8 @@ ghost use Rattle.carriers.specs.Pilots.{codeBin, codeCells};
 ghost use Rattle.carriers.specs.Answers.{roomNo, filled, pilotsNo, pilotBinsLeft, pilotValuesLeft};
 ghost use Rattle.grid.specs.Symbol.{Bins, cellsAt, cleared, placed, stored, piloted};
 ghost use Rattle.grid.specs.Calls.{mapNo, extractNo, mapLeft, extractLeft, staticMapLeft, staticExtractLeft, phaseOf, phaseAfter, mapAnswer, extractAnswer};
+
+pub mod inner;
 
 // The transmit side: its state is the phase of the next symbol.
 pub struct ScatteredPilotMapper {
@@ -31,19 +32,6 @@ pub enum MapAnswer {
 pub enum ExtractAnswer {
     Extracted(ScatteredPilotExtractor),
     Refused(u8, ScatteredPilotExtractor),
-}
-
-// The cells of a symbol at some bins, at the front of the lent output.
-fn gather(bins: &[u16], symbol: &[f32], out: &mut [f32])
-    requires { ⌜ (Bins mode2k (now bins)) × (4096 ≤ length (now symbol)) × (2 * length (now bins) ≤ length (now out)) ⌝ }
-    ensures { λ _. ⌜ now (out .exit) ≡ written (cellsAt (now (symbol .entry)) (now (bins .entry))) (now (out .entry)) ⌝ }
-{
-    let mut k = 0;
-    while k < bins.len() {
-        let b = bins[k] as usize;
-        inner::put_cell(out, k, inner::cell_at(symbol, b));
-        k += 1;
-    }
 }
 
 // The first 2,048 cells of a symbol are +0.0.
@@ -66,7 +54,7 @@ fn place(bins: &[u16], cells: &[f32], symbol: &mut [f32])
     let mut k = 0;
     while k < bins.len() {
         let b = bins[k] as usize;
-        inner::put_cell(symbol, b, inner::cell_at(cells, k));
+        carriers::inner::put_cell(symbol, b, carriers::inner::cell_at(cells, k));
         k += 1;
     }
 }
@@ -80,7 +68,7 @@ fn set_pilots(codes: &[u16], symbol: &mut [f32])
     while k < codes.len() {
         let code = codes[k];
         let b = (code % 2048) as usize;
-        inner::put_cell(symbol, b, inner::boost(code / 2048));
+        carriers::inner::put_cell(symbol, b, carriers::inner::boost(code / 2048));
         k += 1;
     }
 }
@@ -91,23 +79,7 @@ fn lay_data(phase: usize, cells: &[f32], symbol: &mut [f32])
     ensures { λ _. ⌜ now (symbol .exit) ≡ stored mode2k (dataActives mode2k (phaseOf phase)) (now (cells .entry)) (cleared mode2k (now (symbol .entry))) ⌝ }
 {
     clear(symbol);
-    let q = phase % 4;
-    if q == 0 {
-        let row = inner::data_row_0();
-        place(&row, cells, symbol);
-        return;
-    }
-    if q == 1 {
-        let row = inner::data_row_1();
-        place(&row, cells, symbol);
-        return;
-    }
-    if q == 2 {
-        let row = inner::data_row_2();
-        place(&row, cells, symbol);
-        return;
-    }
-    let row = inner::data_row_3();
+    let row = carriers::inner::data_row(phase);
     place(&row, cells, symbol);
 }
 
@@ -116,23 +88,7 @@ fn lay_references(phase: usize, symbol: &mut [f32])
     requires { ⌜ 4096 ≤ length (now symbol) ⌝ }
     ensures { λ _. ⌜ now (symbol .exit) ≡ piloted mode2k (referenceActives mode2k (phaseOf phase)) (now (symbol .entry)) ⌝ }
 {
-    let q = phase % 4;
-    if q == 0 {
-        let row = inner::reference_row_0();
-        set_pilots(&row, symbol);
-        return;
-    }
-    if q == 1 {
-        let row = inner::reference_row_1();
-        set_pilots(&row, symbol);
-        return;
-    }
-    if q == 2 {
-        let row = inner::reference_row_2();
-        set_pilots(&row, symbol);
-        return;
-    }
-    let row = inner::reference_row_3();
+    let row = carriers::inner::reference_row(phase);
     set_pilots(&row, symbol);
 }
 
@@ -142,7 +98,7 @@ fn lay_pilots(phase: usize, symbol: &mut [f32])
     ensures { λ _. ⌜ now (symbol .exit) ≡ piloted mode2k (mode2k .tps) (piloted mode2k (referenceActives mode2k (phaseOf phase)) (now (symbol .entry))) ⌝ }
 {
     lay_references(phase, symbol);
-    let tps = inner::tps_table();
+    let tps = carriers::inner::tps_table();
     set_pilots(&tps, symbol);
 }
 
@@ -151,24 +107,8 @@ fn read_data(phase: usize, symbol: &[f32], out: &mut [f32])
     requires { ⌜ (4096 ≤ length (now symbol)) × (3024 ≤ length (now out)) ⌝ }
     ensures { λ _. ⌜ now (out .exit) ≡ written (cellsAt (now (symbol .entry)) (dataBins mode2k (phaseOf phase))) (now (out .entry)) ⌝ }
 {
-    let q = phase % 4;
-    if q == 0 {
-        let row = inner::data_row_0();
-        gather(&row, symbol, out);
-        return;
-    }
-    if q == 1 {
-        let row = inner::data_row_1();
-        gather(&row, symbol, out);
-        return;
-    }
-    if q == 2 {
-        let row = inner::data_row_2();
-        gather(&row, symbol, out);
-        return;
-    }
-    let row = inner::data_row_3();
-    gather(&row, symbol, out);
+    let row = carriers::inner::data_row(phase);
+    inner::gather(&row, symbol, out);
 }
 
 // The phase after a phase that is taken modulo 4.
@@ -282,10 +222,10 @@ pub fn grid_map(cells: &[f32], symbol: &mut [f32]) -> Counted
     if symbol.len() < 4096 {
         return Counted::Refused(ground::OUTPUT_SHORT);
     }
-    let table = inner::static_table();
+    let table = carriers::inner::static_table();
     clear(symbol);
     place(&table, cells, symbol);
-    let pilots = inner::continual_table();
+    let pilots = carriers::inner::continual_table();
     set_pilots(&pilots, symbol);
     Counted::Count(2048)
 }
@@ -301,7 +241,7 @@ pub fn grid_extract(symbol: &[f32], out: &mut [f32]) -> Counted
     if out.len() < 3320 {
         return Counted::Refused(ground::OUTPUT_SHORT);
     }
-    let table = inner::static_table();
-    gather(&table, symbol, out);
+    let table = carriers::inner::static_table();
+    inner::gather(&table, symbol, out);
     Counted::Count(1660)
 }

@@ -4,10 +4,13 @@ use ground::Counted;
 
 mod codes;
 mod constellation;
+mod frames;
 mod packets;
 mod pilots;
+mod sessions;
 mod symbols;
 mod whitener;
+mod words;
 
 // A count, or a refusal's number: the number is 0 where the call was accepted.
 #[repr(C)]

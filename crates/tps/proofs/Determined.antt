@@ -26,11 +26,14 @@ use Rattle.tps.specs.declared.PunctureRate.{PunctureRate}
 use Rattle.tps.specs.declared.PunctureRate.the-variants.{«R1_2», «R2_3», «R3_4», «R5_6», «R7_8»}
 use Rattle.tps.specs.declared.GuardInterval.{GuardInterval}
 use Rattle.tps.specs.declared.GuardInterval.the-variants.{«G1_32», «G1_16», «G1_8», «G1_4»}
+use Rattle.tps.specs.declared.ConstellationRead.the-variants as constellation
+use Rattle.tps.specs.declared.RateRead.the-variants as rate
 use Rattle.tps.specs.declared.TpsWord.{TpsWord}
 use Rattle.tps.specs.declared.Unpacked.{Unpacked}
 use Rattle.tps.specs.declared.Unpacked.the-variants.{Word, Refused}
 use Rattle.tps.specs.Word.{constellationCode, rateCode, guardCode, fieldsOf, informationOf, wordBits, modulo4}
 use Rattle.tps.specs.Promise.{packAnswer, packLeaves, numberOf, Says, Reserved, Tells, UnpacksBy, Unpacks}
+use Rattle.tps.specs.Reading.{constellationOf, rateOf, guardOf}
 use Rattle.tps.specs.declared.TpsDecoder.{TpsDecoder}
 use Rattle.tps.specs.Receive.{WordsBy, Words}
 use Rattle.tps.proofs.Fields.{fields-bits}
@@ -39,12 +42,7 @@ use Rattle.tps.proofs.Unpacking.{accepted}
 
 -- ---- a code says one case, and is below its bound
 
-abbrev constellationBack : ℕ → ConstellationOrder
-constellationBack zero = Qpsk
-constellationBack (suc zero) = Qam16
-constellationBack (suc (suc n)) = Qam64
-
-constellation-back : (k : ConstellationOrder) → constellationBack (constellationCode k) ≡ k
+constellation-back : (k : ConstellationOrder) → constellationOf (constellationCode k) ≡ constellation.Known k
 constellation-back Qpsk = refl
 constellation-back Qam16 = refl
 constellation-back Qam64 = refl
@@ -54,14 +52,7 @@ constellation-small Qpsk = omega arith
 constellation-small Qam16 = omega arith
 constellation-small Qam64 = omega arith
 
-abbrev rateBack : ℕ → PunctureRate
-rateBack zero = «R1_2»
-rateBack (suc zero) = «R2_3»
-rateBack (suc (suc zero)) = «R3_4»
-rateBack (suc (suc (suc zero))) = «R5_6»
-rateBack (suc (suc (suc (suc n)))) = «R7_8»
-
-rate-back : (k : PunctureRate) → rateBack (rateCode k) ≡ k
+rate-back : (k : PunctureRate) → rateOf (rateCode k) ≡ rate.Known k
 rate-back «R1_2» = refl
 rate-back «R2_3» = refl
 rate-back «R3_4» = refl
@@ -75,13 +66,7 @@ rate-small «R3_4» = omega arith
 rate-small «R5_6» = omega arith
 rate-small «R7_8» = omega arith
 
-abbrev guardBack : ℕ → GuardInterval
-guardBack zero = «G1_32»
-guardBack (suc zero) = «G1_16»
-guardBack (suc (suc zero)) = «G1_8»
-guardBack (suc (suc (suc n))) = «G1_4»
-
-guard-back : (k : GuardInterval) → guardBack (guardCode k) ≡ k
+guard-back : (k : GuardInterval) → guardOf (guardCode k) ≡ k
 guard-back «G1_32» = refl
 guard-back «G1_16» = refl
 guard-back «G1_8» = refl
@@ -94,8 +79,9 @@ guard-small «G1_8» = omega arith
 guard-small «G1_4» = omega arith
 
 -- what has a way back from its code is told by its code
-by-code : {A : Type 0} (code : A → ℕ) (back : ℕ → A) (h : (k : A) → back (code k) ≡ k) (k l : A) (n : ℕ) → code k ≡ n → code l ≡ n → k ≡ l
-by-code code back h k l n e f = sym (h k) ∙ ap back (e ∙ sym f) ∙ h l
+by-code : {A B : Type 0} (code : A → ℕ) (known : A → B) (back : ℕ → B) (h : (k : A) → back (code k) ≡ known k) (one : (k l : A) → known k ≡ known l → k ≡ l)
+    (k l : A) (n : ℕ) → code k ≡ n → code l ≡ n → k ≡ l
+by-code code known back h one k l n e f = one k l (sym (h k) ∙ ap back (e ∙ sym f) ∙ h l)
 
 -- ---- an information tells one answer
 
@@ -104,9 +90,10 @@ make f c r g i = record { «frame_number» = f; constellation = c; «code_rate_h
 
 says-one : (s : List ℕ) (w v : TpsWord) → Says s w → Says s v → w ≡ v
 says-one s w v h k =
-    let c = by-code constellationCode constellationBack constellation-back (w .constellation) (v .constellation) _ (h .constellation) (k .constellation) in
-    let r = by-code rateCode rateBack rate-back (w .«code_rate_hp») (v .«code_rate_hp») _ (h .rate) (k .rate) in
-    let g = by-code guardCode guardBack guard-back (w .guard) (v .guard) _ (h .guard) (k .guard) in
+    let c = by-code constellationCode constellation.Known constellationOf constellation-back (λ m n e. cc) (w .constellation) (v .constellation) _
+    (h .constellation) (k .constellation) in
+    let r = by-code rateCode rate.Known rateOf rate-back (λ m n e. cc) (w .«code_rate_hp») (v .«code_rate_hp») _ (h .rate) (k .rate) in
+    let g = by-code guardCode (λ g. g) guardOf guard-back (λ m n e. e) (w .guard) (v .guard) _ (h .guard) (k .guard) in
     ap (λ (x : ℕ). make x (w .constellation) (w .«code_rate_hp») (w .guard) (w .«cell_id»)) (h .frame ∙ sym (k .frame))
     ∙ ap (λ (x : ConstellationOrder). make (v .«frame_number») x (w .«code_rate_hp») (w .guard) (w .«cell_id»)) c
     ∙ ap (λ (x : PunctureRate). make (v .«frame_number») (v .constellation) x (w .guard) (w .«cell_id»)) r

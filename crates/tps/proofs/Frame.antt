@@ -7,7 +7,7 @@ use Prim.Native.Nat.{ℕ, suc, _+_, _<_, _≤_, min}
 use native.Mathlib.Omega.{arith}
 use lib.Dec.{eqb, ltb}
 use lib.Ieee.{Float, ofBits, add, sub, mul, neg, lt}
-use lib.ListN.{length, take, drop, set, length-set, length-append}
+use lib.ListN.{length, take, drop, set, length-set, length-append, length-map}
 use lib.Seq.{take-suc-set, take-all}
 use borrow.Author.Tests.{eq-eqb, ne-eqb, le-ltb}
 use Rattle.ground.specs.Refusal.{ACCEPTED, INCOMPLETE}
@@ -15,7 +15,8 @@ use Rattle.ground.specs.Answer.{pick, kept, written}
 use Rattle.ground.specs.declared.Cell.{Cell}
 use Rattle.ground.proofs.Xor.{bit-cases}
 use Rattle.bch.specs.Poly.{Bits}
-use Rattle.bch.specs.Code.{places, distance}
+use Rattle.bch.specs.Code.{distance}
+use Rattle.bch.proofs.Mending.{places-self}
 use Rattle.carriers.specs.Cells.{flat}
 use Rattle.carriers.specs.Pilots.{null}
 use Rattle.carriers.proofs.Cells.{flat-length}
@@ -34,7 +35,6 @@ use Rattle.tps.specs.Frame.{Symbol, Frame, readBits}
 use Rattle.tps.specs.Frame.Frame.{start, next}
 use Rattle.tps.proofs.Packing.{word-length, word-bits}
 use Rattle.tps.proofs.Determined.{unpack-packed}
-use Rattle.tps.proofs.Mapped.{map-length}
 use Rattle.tps.proofs.Signs.{signs, start-signs}
 use Rattle.tps.proofs.Sending.{send-accepted}
 use Rattle.tps.proofs.Received.{cells-back, feed-accepted}
@@ -94,7 +94,7 @@ start-length = ap length start-signs
 
 signs-length : (s : List Float) → Signs s → length s ≡ 17
 signs-length s (inl e) = ap length e ∙ start-length
-signs-length s (inr e) = ap length e ∙ map-length neg startSigns ∙ start-length
+signs-length s (inr e) = ap length e ∙ length-map startSigns neg ∙ start-length
 
 -- the signs behind the signs s, and the bit that is heard of them
 abbrev turn : List Float → ℕ → List Float
@@ -181,7 +181,7 @@ module _ (bit : ℕ) (e e′ : TpsEncoder) (d d′ : TpsDecoder) (y : Symbol bit
 
   module _ (k : length (signsOf e bit) ≡ 17) (l : d .count < 68) where
     cells-size : length (map signCell (signsOf e bit)) ≡ 17
-    cells-size = map-length signCell (signsOf e bit) ∙ k
+    cells-size = length-map (signsOf e bit) signCell ∙ k
 
     fed-cells : firstCells 17 (y .left) ≡ map signCell (signsOf e bit)
     fed-cells =
@@ -264,10 +264,6 @@ held-bits : (bs : List ℕ) → Bits bs → map (min 1) bs ≡ bs
 held-bits [] h = refl
 held-bits (b ∷ bs) h = ap₂ (λ (x : ℕ) (l : List ℕ). x ∷ l) (min-bit b (h .0)) (held-bits bs (h .1))
 
-no-places : (k : ℕ) (xs : List ℕ) → places k xs xs ≡ []
-no-places k [] = refl
-no-places k (x ∷ xs) = simp (eq-eqb x x refl) (no-places (suc k) xs)
-
 few : 0 ≤ 2
 few = omega arith
 
@@ -283,5 +279,5 @@ word-read w bs e d r h f l s k =
     let t = frame-read bs e d f l in
     let b : Bits (wordBits w) = word-bits w in
     let g : map (min 1) (d .bits) ≡ wordBits w = ap (map (min 1)) (t .1 ∙ s) ∙ held-bits (wordBits w) b in
-    let z : distance (drop 1 (wordBits w)) (drop 1 (wordBits w)) ≡ 0 = ap length (no-places 0 (drop 1 (wordBits w))) in
+    let z : distance (drop 1 (wordBits w)) (drop 1 (wordBits w)) ≡ 0 = ap length (places-self 0 (drop 1 (wordBits w))) in
     unpack-packed w h (wordBits w) b (word-length w) r (subst (λ (n : ℕ). n ≤ 2) (sym z) few) (subst (λ (x : List ℕ). Unpacks x r) g (word-by d r (t .0) k))

@@ -2,8 +2,9 @@ pub mod Fields
 pub mod Packing
 pub mod Unpacking
 pub mod Determined
-pub mod Mapped
+pub mod Reading
 pub mod Received
 pub mod Signs
 pub mod Sending
 pub mod Frame
+pub mod Frames

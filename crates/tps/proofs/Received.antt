@@ -1,16 +1,18 @@
--- The receiver: the first cells of a slice, what a row of cells gives back, and the answers of feeding and of the word. Assumes nothing.
-use mathlib.Core.Path.{_≡_, refl, sym, ap, _∙_, subst}
+-- The receiver: the first cells of a slice, what a row of cells gives back, and the answers of feeding, of the bits and of the word. Assumes nothing.
+use mathlib.Core.Path.{_≡_, refl, sym, ap, ap₂, _∙_, subst}
 use mathlib.Core.List.{List, [], _∷_, _++_, map}
 use Prim.Native.Nat.{ℕ, zero, suc, _+_, _*_, _<_, _≤_, min}
 use native.Mathlib.Nat.{not-suc-le-zero, le-of-suc-le-suc}
 use native.Mathlib.Omega.{arith}
 use lib.Dec.{ltb}
 use lib.Ieee.{Float, nan}
-use lib.ListN.{length, getD, drop, set}
-use lib.Seq.{getD-drop}
+use lib.ListN.{length, getD, take, drop, set}
+use lib.Seq.{getD-drop, length-take-le}
 use borrow.Author.Tests.{lt-ltb, le-ltb, le-leb, lt-leb}
-use Rattle.ground.specs.Refusal.{ACCEPTED, LENGTH, FULL, INCOMPLETE}
-use Rattle.ground.specs.Answer.{pick}
+use Rattle.ground.specs.Refusal.{ACCEPTED, LENGTH, OUTPUT-SHORT, FULL, INCOMPLETE}
+use Rattle.ground.specs.Answer.{pick, counted, kept, written}
+use Rattle.ground.specs.declared.Counted.the-variants as counts
+use Rattle.ground.proofs.Answers.{written-front}
 use Rattle.ground.specs.declared.Cell.{Cell}
 use Rattle.carriers.specs.Cells.{cellAt, flat}
 use Rattle.carriers.proofs.Cells.{cell-of}
@@ -19,7 +21,7 @@ use Rattle.tps.specs.declared.TpsBit.the-variants.{Bit, Refused}
 use Rattle.tps.specs.declared.Unpacked.{Unpacked}
 use Rattle.tps.specs.declared.Unpacked.the-variants as unpacked
 use Rattle.tps.specs.Promise.{Unpacks}
-use Rattle.tps.specs.Receive.{firstCells, bitOf, feedNo, fedOf, WordsBy, Words}
+use Rattle.tps.specs.Receive.{firstCells, bitOf, feedNo, fedOf, standing, receivedBits, receivedNo, receivedAnswer, receivedLeaves, WordsBy, Words}
 
 -- ---- cells
 
@@ -64,6 +66,28 @@ module _ (d : TpsDecoder) (s : List Float) where
     pub feed-bit : d .count < 68 → (cells : List Cell) (bit : ℕ) → cells ≡ firstCells 17 s → bit ≡ bitOf (d .count) cells (d .prev)
         → record { answer = Bit bit; decoder = record { prev = cells; bits = set (d .bits) (d .count) bit; count = d .count + 1 } } ≡ fedOf d s
     feed-bit l cells bit ec eb = simp (eb, ec, le-ltb (length s) 34 h, lt-leb 68 (d .count) l) refl
+
+-- ---- the received bits, where n symbols stand
+
+module _ (d : TpsDecoder) (o : List ℕ) (n : ℕ) (e : n ≡ standing d) where
+  received-by : (k : ℕ) → receivedNo d o ≡ k
+      → (counted k (standing d) ≡ receivedAnswer d o) × (kept k (written (receivedBits d) o) o ≡ receivedLeaves d o)
+  received-by k f = (ap (λ (x : ℕ). counted x (standing d)) (sym f), ap (λ (x : ℕ). kept x (written (receivedBits d) o) o) (sym f))
+
+  pub received-short : length o < n → (counts.Refused OUTPUT-SHORT ≡ receivedAnswer d o) × (o ≡ receivedLeaves d o)
+  received-short h = received-by OUTPUT-SHORT (simp (lt-ltb (length o) (standing d) (omega arith)) refl)
+
+  -- the front of the output came back as the first n of the held bits
+  pub received-written : n ≤ length o → (held t : List ℕ) → length held ≡ 68 → held ≡ map (min 1) (d .bits) → t ≡ take n held
+      → (counts.Count n ≡ receivedAnswer d o) × (t ++ drop n o ≡ receivedLeaves d o)
+  received-written h held t l eh et =
+      let r = received-by ACCEPTED (simp (le-ltb (length o) (standing d) (omega arith)) refl) in
+      let m : length (take n held) ≡ n = length-take-le n held (omega arith) in (
+        ap counts.Count e ∙ r .0,
+        written-front (receivedBits d) o t n (et ∙ ap₂ take e eh) (ap length (sym (ap₂ take e eh)) ∙ m) ∙ r .1,
+      )
+
+-- ---- the word
 
 module _ (d : TpsDecoder) where
   word-by : (n : ℕ) (r : Unpacked) → pick (ltb (d .count) 68) INCOMPLETE ACCEPTED ≡ n → WordsBy n d r → Words d r

@@ -69,7 +69,7 @@ all-bits (x ∷ xs) l f h = ap₂ _&&_ (lt-ltb x 2 (omega (arith, f))) (sym (ap 
 -- ---- the bits s1..s67, decoded
 
 module _ (b : List ℕ) (hl : length b ≡ 68) (hb : areBits b ≡ true) where
-  rest-length : length (drop 1 b) ≡ 67
+  pub rest-length : length (drop 1 b) ≡ 67
   rest-length = length-drop 1 b ∙ omega arith
 
   pub rest-bits : Bits (drop 1 b)

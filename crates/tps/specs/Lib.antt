@@ -1,5 +1,6 @@
 pub mod Word
 pub mod Promise
+pub mod Reading
 pub mod Inner
 pub mod Send
 pub mod Receive

@@ -5,10 +5,11 @@ use mathlib.Core.List.{List, [], _∷_, map}
 use Prim.Native.Nat.{ℕ, zero, suc, _+_, min}
 use lib.Dec.{eqb, ltb, leb}
 use lib.Ieee.{Float, nan, binary32, add, sub, mul, neg, lt}
-use lib.ListN.{length, getD, drop, set, replicate}
-use Rattle.ground.specs.Refusal.{ACCEPTED, LENGTH, FULL, INCOMPLETE}
-use Rattle.ground.specs.Answer.{pick, kept}
+use lib.ListN.{length, getD, take, drop, set, replicate}
+use Rattle.ground.specs.Refusal.{ACCEPTED, LENGTH, OUTPUT-SHORT, FULL, INCOMPLETE}
+use Rattle.ground.specs.Answer.{pick, counted, kept, written}
 use Rattle.ground.specs.declared.Cell.{Cell}
+use Rattle.ground.specs.declared.Counted.{Counted}
 use Rattle.carriers.specs.Cells.{cellAt}
 use Rattle.carriers.specs.Pilots.{null}
 use Rattle.tps.specs.declared.TpsDecoder.{TpsDecoder}
@@ -73,6 +74,28 @@ fedOf d cells =
           kept (feedNo d cells)
           (record { prev = firstCells 17 cells; bits = set (d .bits) (d .count) (fedBit d cells); count = d .count + 1 }) d;
     }
+
+-- ---- the received bits
+
+-- how many symbols stand: a count above 68 is treated as 68
+abbrev pub standing : TpsDecoder → ℕ
+standing d = min 68 (d .count)
+
+-- s0.., one for each symbol that stands; a held bit above 1 is treated as 1
+abbrev pub receivedBits : TpsDecoder → List ℕ
+receivedBits d = take (standing d) (map (min 1) (d .bits))
+
+abbrev pub receivedNo : TpsDecoder → List ℕ → ℕ
+receivedNo d out = pick (ltb (length out) (standing d)) OUTPUT-SHORT ACCEPTED
+
+-- what a call for the received bits answers, and what it leaves
+abbrev pub receivedAnswer : TpsDecoder → List ℕ → Counted
+receivedAnswer d out = counted (receivedNo d out) (standing d)
+
+abbrev pub receivedLeaves : TpsDecoder → List ℕ → List ℕ
+receivedLeaves d out = kept (receivedNo d out) (written (receivedBits d) out) out
+
+-- ---- the word
 
 -- the answer to a call for the word: INCOMPLETE with fewer than 68, else that of unpacking the held bits, one above 1 treated as 1
 abbrev pub WordsBy : ℕ → TpsDecoder → Unpacked → Type 0

@@ -2,8 +2,7 @@
 ghost use mathlib.Core.Path.{_≡_};
 ghost use Prim.Native.Nat.{_-_, _^_, _≤_, _<_};
 ghost use lib.ListN.{length, take, drop};
-ghost use Rattle.bch.specs.Poly.{Bits, digitsOf, valueOf};
-ghost use Rattle.bch.specs.Promise.{areBits};
+ghost use Rattle.bch.specs.Poly.{Bits, valueOf};
 ghost use Rattle.tps.specs.Word.{constellationCode, rateCode, guardCode, syncOf, informationOf};
 ghost use Rattle.tps.specs.Promise.{packAnswer, packLeaves, Unpacks};
 ghost use Rattle.tps.specs.Inner.{ConstellationIs, RateIs, CodesOf};
@@ -14,9 +13,11 @@ ghost use lib.Ieee.{neg};
 ghost use Rattle.ground.specs.Answer.{written};
 ghost use Rattle.carriers.specs.Cells.{flat};
 ghost use Rattle.tps.specs.Send.{signCell, startSigns, freshEncoder, signsOf, sentOf, sentLeaves};
-ghost use Rattle.tps.specs.Receive.{firstCells, correlation, bitOf, freshDecoder, fedOf, Words};
+ghost use Rattle.tps.specs.Receive.{correlation, bitOf, freshDecoder, fedOf, receivedAnswer, receivedLeaves, Words};
 use ground::Cell;
 use ground::Counted;
+
+pub mod inner;
 
 // The constellation of the data cells.
 pub enum ConstellationOrder {
@@ -168,32 +169,6 @@ fn sync_word(frame_number: u8) -> u64
 
 // ---- bits
 
-// Whether each item of a bit slice is 0 or 1.
-fn all_bits(bits: &[u8]) -> bool
-    ensures { λ r. ⌜ r ≡ areBits (now (bits .entry)) ⌝ }
-{
-    let mut seen: u8 = 0;
-    let mut i: usize = 0;
-    while i < bits.len() {
-        seen = seen | bits[i];
-        i += 1;
-    }
-    seen < 2
-}
-
-// The low digits of a number, highest first, as many as there is room for.
-fn put_digits(number: u64, out: &mut [u8])
-    requires { ⌜ length (now out) ≤ 64 ⌝ }
-    ensures { λ r. ⌜ now (out .exit) ≡ digitsOf (length (now (out .entry))) number ⌝ }
-{
-    let mut i: usize = 0;
-    while i < out.len() {
-        let above = out.len() - 1 - i;
-        out[i] = ((number >> above) % 2) as u8;
-        i += 1;
-    }
-}
-
 // The number that the bits from one place up to another say.
 fn field(information: &[u8], from: usize, to: usize) -> u8
     requires { ⌜ Bits (now information) × (length (now information) ≡ 53) × (from ≤ to) × (to ≤ 53) × (to - from ≤ 8) ⌝ }
@@ -242,8 +217,8 @@ impl TpsWord {
         let information = self.information();
         let parity = bch::inner::parity_of(information);
         out[0] = 0;
-        put_digits(information, &mut out[1..54]);
-        put_digits(parity, &mut out[54..68]);
+        bch::inner::put_digits(information, &mut out[1..54]);
+        bch::inner::put_digits(parity, &mut out[54..68]);
         Counted::Count(68)
     }
 
@@ -258,7 +233,7 @@ impl TpsWord {
             return Unpacked::Refused(ground::NOT_A_BIT);
         }
         let code = &bits[1..];
-        if !all_bits(code) {
+        if !bch::inner::all_bits(code) {
             return Unpacked::Refused(ground::NOT_A_BIT);
         }
         let mut information = [0u8; 53];
@@ -286,6 +261,7 @@ impl TpsWord {
 // ---- the sender
 
 // What the sender holds: each carrier's sign, and whether the frame's first symbol is sent.
+#[repr(C)]
 pub struct TpsEncoder {
     pub signs: [f32; 17],
     pub started: bool,
@@ -413,6 +389,7 @@ impl TpsEncoder {
 // ---- the receiver
 
 // What the receiver holds: the previous symbol's cells, the bits, and how many symbols stand.
+#[repr(C)]
 pub struct TpsDecoder {
     pub prev: [Cell; 17],
     pub bits: [u8; 68],
@@ -429,20 +406,6 @@ pub enum TpsBit {
 pub struct Fed {
     pub answer: TpsBit,
     pub decoder: TpsDecoder,
-}
-
-// The first 17 cells.
-fn first_cells(cells: &[f32]) -> [Cell; 17]
-    requires { ⌜ 34 ≤ length (now cells) ⌝ }
-    ensures { λ r. ⌜ r ≡ firstCells 17 (now (cells .entry)) ⌝ }
-{
-    let mut first = [Cell { re: 0.0, im: 0.0 }; 17];
-    let mut k: usize = 0;
-    while k < 17 {
-        first[k] = carriers::inner::cell_at(cells, k);
-        k += 1;
-    }
-    first
 }
 
 // The sum of the carriers' products with the previous symbol's, in order from +0.0, each operation rounded once.
@@ -487,6 +450,13 @@ fn held_bits(bits: [u8; 68]) -> [u8; 68]
     held
 }
 
+// How many symbols stand, a count above 68 counting as 68.
+fn standing_count(count: usize) -> usize
+    ensures { λ r. ⌜ r ≡ min 68 count ⌝ }
+{
+    if count < 68 { count } else { 68 }
+}
+
 impl TpsDecoder {
     // A receiver at the start of a frame.
     pub fn new() -> Self
@@ -523,7 +493,7 @@ impl TpsDecoder {
                 decoder: self,
             };
         }
-        let first = first_cells(cells);
+        let first = inner::first_cells(cells);
         let prev = self.prev;
         let bit = tps_bit(count, first, prev);
         let mut bits = self.bits;
@@ -543,6 +513,21 @@ impl TpsDecoder {
         ensures { λ r. ⌜ r ≡ leb 68 (self .count) ⌝ }
     {
         68 <= self.count
+    }
+
+    // The received bits s0.., one for each symbol that stands, written to the lent output.
+    pub fn bits(self, out: &mut [u8]) -> Counted
+        ensures answer { λ r. ⌜ r ≡ receivedAnswer self (now (out .entry)) ⌝ }
+        ensures output { λ r. ⌜ now (out .exit) ≡ receivedLeaves self (now (out .entry)) ⌝ }
+    {
+        let standing = standing_count(self.count);
+        if out.len() < standing {
+            return Counted::Refused(ground::OUTPUT_SHORT);
+        }
+        let bits = self.bits;
+        let held = held_bits(bits);
+        ground::inner::copy(&held[..standing], &mut out[..standing]);
+        Counted::Count(standing)
     }
 
     // The word of 68 received bits.

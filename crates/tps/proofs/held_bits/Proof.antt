@@ -4,9 +4,9 @@ use Prim.Native.Nat.{_≤_, _-_, min}
 use native.Mathlib.Omega.{arith}
 use mathlib.Core.List.{map}
 use mathlib.Core.Logic.{⊎-elim}
-use lib.ListN.{length, getD}
+use lib.ListN.{length, getD, length-map}
 use Rattle.ground.proofs.Front.{front, front-next, front-full}
-use Rattle.tps.proofs.Mapped.{map-at, map-length}
+use Rattle.ground.proofs.Mapped.{map-at}
 use borrow.Author.Needs.{needs}
 use Rattle.tps.proofs.held_bits.Statement.{statement}
 use Rattle.tps.proofs.held_bits.Tie as tie
@@ -37,7 +37,7 @@ loop-again c =
     let l = c .before .before .loop in
     let s = c .before .before .before .args .t1 in
     let z : length s ≡ 68 = search needs in
-    let n : length (map (min 1) s) ≡ 68 = map-length (min 1) s ∙ z in
+    let n : length (map (min 1) s) ≡ 68 = length-map s (min 1) ∙ z in
     let v : c .if1 .held ≡ min 1 (getD s (l .i) 0) = ⊎-elim (λ w. omega arith) (λ w. omega arith) (c .if1 .came) in
     (omega arith, l .inv .1, front-next (map (min 1) s) _ (l .held) (l .i) 0 (c .if1 .held) (omega arith) (omega arith) (l .inv .2) (v ∙ sym (map-at (min 1) s (l .i) 0 0 (omega arith))))
 
@@ -46,7 +46,7 @@ returns c =
     let l = c .before .loop in
     let s = c .before .before .args .t1 in
     let z : length s ≡ 68 = search needs in
-    let n : length (map (min 1) s) ≡ 68 = map-length (min 1) s ∙ z in
+    let n : length (map (min 1) s) ≡ 68 = length-map s (min 1) ∙ z in
     front-full (map (min 1) s) _ (l .held) (l .i) (omega (arith, c .loop-test .left)) (omega arith) (l .inv .2)
 
 pub held-bits-spec : {M : Type 1} → statement M

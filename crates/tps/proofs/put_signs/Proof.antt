@@ -4,14 +4,14 @@ use Prim.Native.Nat.{_≤_, _-_, _+_, _*_}
 use native.Mathlib.Omega.{arith}
 use mathlib.Core.List.{map}
 use lib.Ieee.{nan}
-use lib.ListN.{length, getD}
+use lib.ListN.{length, getD, length-map}
 use Rattle.ground.proofs.Front.{front, front-length, front-whole}
 use Rattle.carriers.specs.Cells.{flat}
 use Rattle.carriers.specs.Pilots.{null}
 use Rattle.carriers.proofs.Cells.{cell-next, flat-length}
 use Rattle.tps.specs.Send.{signCell}
 use Rattle.tps.specs.Receive.{noCell}
-use Rattle.tps.proofs.Mapped.{map-at, map-length}
+use Rattle.ground.proofs.Mapped.{map-at}
 use borrow.Author.Needs.{needs}
 use Rattle.tps.proofs.put_signs.Statement.{statement}
 use Rattle.tps.proofs.put_signs.Tie as tie
@@ -48,7 +48,7 @@ loop-again c =
     let s = z .args .t1 in
     let o = z .args .out .now in
     let m = map signCell s in
-    let n : length m ≡ 17 = map-length signCell s ∙ l .inv .1 in
+    let n : length m ≡ 17 = length-map s signCell ∙ l .inv .1 in
     let f : length (flat m) ≡ 2 * length m = flat-length m in
     let d = c .before .before .put-cell .ensures ∙ cell-next m o (l .out) (l .k) noCell (signCell (getD s (l .k) nan)) (omega arith) (omega arith) (l .inv .3)
     (sym (map-at signCell s (l .k) noCell nan (omega arith))) in
@@ -63,7 +63,7 @@ returns c =
     let z = c .before .before .before in
     let s = z .args .t1 in
     let m = map signCell s in
-    let n : length m ≡ 17 = map-length signCell s ∙ l .inv .1 in
+    let n : length m ≡ 17 = length-map s signCell ∙ l .inv .1 in
     let f : length (flat m) ≡ 2 * length m = flat-length m in
     front-whole (flat m) (z .args .out .now) (l .out) (2 * l .k) (omega (arith, c .loop-test .left)) (l .inv .3)
 

@@ -4,9 +4,9 @@ use Prim.Native.Nat.{_≤_, _-_}
 use native.Mathlib.Omega.{arith}
 use mathlib.Core.List.{map}
 use lib.Ieee.{nan, neg}
-use lib.ListN.{length, getD}
+use lib.ListN.{length, getD, length-map}
 use Rattle.ground.proofs.Front.{front, front-next, front-full}
-use Rattle.tps.proofs.Mapped.{map-at, map-length}
+use Rattle.ground.proofs.Mapped.{map-at}
 use borrow.Author.Needs.{needs}
 use Rattle.tps.proofs.turned.Statement.{statement}
 use Rattle.tps.proofs.turned.Tie as tie
@@ -43,7 +43,7 @@ loop-again c =
     let l = c .before .loop in
     let s = c .before .before .args .t1 in
     let z : length s ≡ 17 = search needs in
-    let n : length (map neg s) ≡ 17 = map-length neg s ∙ z in
+    let n : length (map neg s) ≡ 17 = length-map s neg ∙ z in
     (omega arith, l .inv .1, front-next (map neg s) _ (l .other) (l .k) nan (neg (getD s (l .k) nan)) (omega arith) (omega arith) (l .inv .2) (sym (map-at neg s (l .k) nan nan (omega arith))))
 
 returns : tie.Need-returns Inv-loop μ-loop
@@ -51,7 +51,7 @@ returns c =
     let l = c .before .loop in
     let s = c .before .before .args .t1 in
     let z : length s ≡ 17 = search needs in
-    let n : length (map neg s) ≡ 17 = map-length neg s ∙ z in
+    let n : length (map neg s) ≡ 17 = length-map s neg ∙ z in
     front-full (map neg s) _ (l .other) (l .k) (omega (arith, c .loop-test .left)) (omega arith) (l .inv .2)
 
 pub turned-spec : {M : Type 1} → statement M

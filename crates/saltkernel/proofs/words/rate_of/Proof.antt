@@ -1,0 +1,24 @@
+-- `saltkernel::words::rate_of` meets its contract: each case is the definition's. Assumes nothing.
+use mathlib.Core.Path.{sym, ap}
+use borrow.Author.Tests.{ne-eqb}
+use Rattle.saltkernel.specs.Words.{rateOf}
+use Rattle.saltkernel.proofs.words.rate_of.Statement.{statement}
+use Rattle.saltkernel.proofs.words.rate_of.Tie as tie
+
+returns : tie.Need-returns
+returns c = sym (ap rateOf (c .match .keys1))
+
+returns-2 : tie.Need-returns-2
+returns-2 c = sym (ap rateOf (c .match .keys2))
+
+returns-3 : tie.Need-returns-3
+returns-3 c = sym (ap rateOf (c .match .keys3))
+
+returns-4 : tie.Need-returns-4
+returns-4 c = sym (ap rateOf (c .match .keys4))
+
+returns-5 : tie.Need-returns-5
+returns-5 c = let r = c .match .rest in simp (ne-eqb _ _ (r .0 .0 .0 .1), ne-eqb _ _ (r .0 .0 .1), ne-eqb _ _ (r .0 .1), ne-eqb _ _ (r .1))
+
+pub rate-of-spec : {M : Type 1} → statement M
+rate-of-spec = tie.close (tie.spec returns returns-2 returns-3 returns-4 returns-5)

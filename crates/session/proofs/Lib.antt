@@ -1,0 +1,17 @@
+pub mod Numbers
+pub mod Held
+pub mod Places
+pub mod Calls
+pub mod Symbols
+pub mod Cases
+pub mod Cells
+pub mod Journal
+pub mod Decoder
+pub mod OneCall
+pub mod History
+pub mod Feeding
+pub mod Stepping
+pub mod Words
+pub mod Demand
+pub mod Runs
+pub mod Undone

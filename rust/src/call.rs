@@ -1,0 +1,265 @@
+//! A safe function over each function of the C interface, and nothing more: a slice becomes its pointer and its length.
+//!
+//! Why each is safe: the library is proved to read and write only inside the slices that it is given, for all lengths and values; a slice of `Complex32`,
+//! `Active` or `Bin` has the layout of its numbers; and a result is plain numbers, each of whose values is one of its type.
+
+use crate::carrier::{Active, Bin};
+use crate::complex::Complex32;
+use crate::sys::*;
+
+/// The floats of cells, re and im in turn: where, and how many.
+fn floats(cells: &[Complex32]) -> (*const f32, usize) {
+    (cells.as_ptr().cast(), 2 * cells.len())
+}
+
+/// The floats of cells that are lent to be written.
+fn floats_mut(cells: &mut [Complex32]) -> (*mut f32, usize) {
+    (cells.as_mut_ptr().cast(), 2 * cells.len())
+}
+
+// ---- transport packets
+
+pub fn ts_packetize(payload: &[u8], out: &mut [u8]) -> SaltCounted {
+    unsafe { salt_ts_packetize(payload.as_ptr(), payload.len(), out.as_mut_ptr(), out.len()) }
+}
+
+pub fn ts_depacketize(packets: &[u8], out: &mut [u8]) -> SaltCounted {
+    unsafe { salt_ts_depacketize(packets.as_ptr(), packets.len(), out.as_mut_ptr(), out.len()) }
+}
+
+pub fn ts_null_packet() -> SaltPacket {
+    unsafe { salt_ts_null_packet() }
+}
+
+pub fn ts_stuff_null_packets(ts: &mut [u8], used: usize, target: usize) -> SaltCounted {
+    unsafe { salt_ts_stuff_null_packets(ts.as_mut_ptr(), ts.len(), used, target) }
+}
+
+// ---- energy dispersal
+
+pub fn ts_energy_disperse(packets: &mut [u8]) -> SaltCounted {
+    unsafe { salt_ts_energy_disperse(packets.as_mut_ptr(), packets.len()) }
+}
+
+pub fn energy_dispersal_new() -> SaltDvbTEnergyDispersal {
+    unsafe { salt_dvb_t_energy_dispersal_new() }
+}
+
+pub fn energy_dispersal_reset(whitener: SaltDvbTEnergyDispersal) -> SaltDvbTEnergyDispersal {
+    unsafe { salt_dvb_t_energy_dispersal_reset(whitener) }
+}
+
+pub fn energy_dispersal_advance_byte(whitener: SaltDvbTEnergyDispersal) -> SaltDvbTEnergyDispersal {
+    unsafe { salt_dvb_t_energy_dispersal_advance_byte(whitener) }
+}
+
+pub fn energy_dispersal_feed_in_place(whitener: SaltDvbTEnergyDispersal, bytes: &mut [u8]) -> SaltDvbTEnergyDispersal {
+    unsafe { salt_dvb_t_energy_dispersal_feed_in_place(whitener, bytes.as_mut_ptr(), bytes.len()) }
+}
+
+pub fn energy_dispersal_feed(whitener: SaltDvbTEnergyDispersal, bytes: &[u8], out: &mut [u8]) -> SaltFed {
+    unsafe { salt_dvb_t_energy_dispersal_feed(whitener, bytes.as_ptr(), bytes.len(), out.as_mut_ptr(), out.len()) }
+}
+
+// ---- Gray mapping
+
+pub fn dvb_t_map_symbol(bits: &[u8]) -> SaltMapped {
+    unsafe { salt_dvb_t_map_symbol(bits.as_ptr(), bits.len()) }
+}
+
+pub fn dvb_t_demap_symbol(sym: SaltCell, v: usize, out: &mut [u8]) -> SaltCounted {
+    unsafe { salt_dvb_t_demap_symbol(sym, v, out.as_mut_ptr(), out.len()) }
+}
+
+pub fn dvb_t_soft_llr(sym: SaltCell, v: usize) -> SaltSoft {
+    unsafe { salt_dvb_t_soft_llr(sym, v) }
+}
+
+// ---- carriers and pilots
+
+pub fn active_to_signed(active: u16) -> SaltSigned {
+    unsafe { salt_active_to_signed(active) }
+}
+
+pub fn signed_to_bin(signed: i16) -> SaltCarrier {
+    unsafe { salt_signed_to_bin(signed) }
+}
+
+pub fn bin_to_active(bin: u16) -> SaltCarrier {
+    unsafe { salt_bin_to_active(bin) }
+}
+
+pub fn wk_prbs(out: &mut [u8]) {
+    unsafe { salt_wk_prbs(out.as_mut_ptr(), out.len()) }
+}
+
+pub fn boosted_pilot_value(wk: u8) -> SaltMapped {
+    unsafe { salt_boosted_pilot_value(wk) }
+}
+
+pub fn continual_pilot_indices() -> SaltContinual {
+    unsafe { salt_continual_pilot_indices() }
+}
+
+pub fn continual_pilot_bins() -> SaltContinual {
+    unsafe { salt_continual_pilot_bins() }
+}
+
+pub fn tps_carrier_indices() -> SaltTps {
+    unsafe { salt_tps_carrier_indices() }
+}
+
+pub fn tps_carrier_bins() -> SaltTps {
+    unsafe { salt_tps_carrier_bins() }
+}
+
+pub fn scattered_pilot_indices(phase: usize, out: &mut [Active]) -> SaltCounted {
+    unsafe { salt_scattered_pilot_indices(phase, out.as_mut_ptr().cast(), out.len()) }
+}
+
+pub fn data_bins(phase: usize, out: &mut [Bin]) -> SaltCounted {
+    unsafe { salt_data_bins(phase, out.as_mut_ptr().cast(), out.len()) }
+}
+
+pub fn static_data_bins(out: &mut [Bin]) -> SaltCounted {
+    unsafe { salt_static_data_bins(out.as_mut_ptr().cast(), out.len()) }
+}
+
+pub fn reference_pilot_bins(phase: usize, bins: &mut [Bin], values: &mut [Complex32]) -> SaltCounted {
+    let (values, values_length) = floats_mut(values);
+    unsafe { salt_reference_pilot_bins(phase, bins.as_mut_ptr().cast(), bins.len(), values, values_length) }
+}
+
+// ---- symbols
+
+pub fn mapper_new() -> SaltScatteredPilotMapper {
+    unsafe { salt_scattered_pilot_mapper_new() }
+}
+
+pub fn mapper_reset(mapper: SaltScatteredPilotMapper) -> SaltScatteredPilotMapper {
+    unsafe { salt_scattered_pilot_mapper_reset(mapper) }
+}
+
+pub fn mapper_map_symbol(mapper: SaltScatteredPilotMapper, cells: &[Complex32], symbol: &mut [Complex32]) -> SaltMapAnswer {
+    let ((cells, cells_length), (symbol, symbol_length)) = (floats(cells), floats_mut(symbol));
+    unsafe { salt_scattered_pilot_mapper_map_symbol(mapper, cells, cells_length, symbol, symbol_length) }
+}
+
+pub fn extractor_new() -> SaltScatteredPilotExtractor {
+    unsafe { salt_scattered_pilot_extractor_new() }
+}
+
+pub fn extractor_reset(extractor: SaltScatteredPilotExtractor) -> SaltScatteredPilotExtractor {
+    unsafe { salt_scattered_pilot_extractor_reset(extractor) }
+}
+
+pub fn extractor_phase(extractor: SaltScatteredPilotExtractor) -> usize {
+    unsafe { salt_scattered_pilot_extractor_phase(extractor) }
+}
+
+pub fn extractor_data_bins(extractor: SaltScatteredPilotExtractor, out: &mut [Bin]) -> SaltCounted {
+    unsafe { salt_scattered_pilot_extractor_data_bins(extractor, out.as_mut_ptr().cast(), out.len()) }
+}
+
+pub fn extractor_current_pilot_bins(extractor: SaltScatteredPilotExtractor, bins: &mut [Bin], values: &mut [Complex32]) -> SaltCounted {
+    let (values, values_length) = floats_mut(values);
+    unsafe { salt_scattered_pilot_extractor_current_pilot_bins(extractor, bins.as_mut_ptr().cast(), bins.len(), values, values_length) }
+}
+
+pub fn extractor_extract_symbol(extractor: SaltScatteredPilotExtractor, symbol: &[Complex32], out: &mut [Complex32]) -> SaltExtractAnswer {
+    let ((symbol, symbol_length), (out, out_length)) = (floats(symbol), floats_mut(out));
+    unsafe { salt_scattered_pilot_extractor_extract_symbol(extractor, symbol, symbol_length, out, out_length) }
+}
+
+pub fn grid_map(cells: &[Complex32], symbol: &mut [Complex32]) -> SaltCounted {
+    let ((cells, cells_length), (symbol, symbol_length)) = (floats(cells), floats_mut(symbol));
+    unsafe { salt_grid_map(cells, cells_length, symbol, symbol_length) }
+}
+
+pub fn grid_extract(symbol: &[Complex32], out: &mut [Complex32]) -> SaltCounted {
+    let ((symbol, symbol_length), (out, out_length)) = (floats(symbol), floats_mut(out));
+    unsafe { salt_grid_extract(symbol, symbol_length, out, out_length) }
+}
+
+// ---- the code of the TPS words
+
+pub fn tps_bch_encode(info: &[u8], out: &mut [u8]) -> SaltCounted {
+    unsafe { salt_tps_bch_encode(info.as_ptr(), info.len(), out.as_mut_ptr(), out.len()) }
+}
+
+pub fn tps_bch_decode(code: &[u8], out: &mut [u8]) -> SaltCounted {
+    unsafe { salt_tps_bch_decode(code.as_ptr(), code.len(), out.as_mut_ptr(), out.len()) }
+}
+
+// ---- the TPS word
+
+pub fn tps_word_pack(word: SaltTpsWord, out: &mut [u8]) -> SaltCounted {
+    unsafe { salt_tps_word_pack(word, out.as_mut_ptr(), out.len()) }
+}
+
+pub fn tps_word_unpack(bits: &[u8]) -> SaltUnpacked {
+    unsafe { salt_tps_word_unpack(bits.as_ptr(), bits.len()) }
+}
+
+// ---- the TPS frame, sent and received
+
+pub fn tps_encoder_new() -> SaltTpsEncoder {
+    unsafe { salt_tps_encoder_new() }
+}
+
+pub fn tps_encoder_reset(encoder: SaltTpsEncoder) -> SaltTpsEncoder {
+    unsafe { salt_tps_encoder_reset(encoder) }
+}
+
+pub fn tps_encoder_next_symbol(encoder: SaltTpsEncoder, bit: u8, out: &mut [Complex32]) -> SaltSent {
+    let (out, out_length) = floats_mut(out);
+    unsafe { salt_tps_encoder_next_symbol(encoder, bit, out, out_length) }
+}
+
+pub fn tps_decoder_new() -> SaltTpsDecoder {
+    unsafe { salt_tps_decoder_new() }
+}
+
+pub fn tps_decoder_reset(decoder: SaltTpsDecoder) -> SaltTpsDecoder {
+    unsafe { salt_tps_decoder_reset(decoder) }
+}
+
+pub fn tps_decoder_feed_symbol(decoder: SaltTpsDecoder, cells: &[Complex32]) -> SaltTpsFed {
+    let (cells, cells_length) = floats(cells);
+    unsafe { salt_tps_decoder_feed_symbol(decoder, cells, cells_length) }
+}
+
+pub fn tps_decoder_is_complete(decoder: SaltTpsDecoder) -> u8 {
+    unsafe { salt_tps_decoder_is_complete(decoder) }
+}
+
+pub fn tps_decoder_word(decoder: SaltTpsDecoder) -> SaltUnpacked {
+    unsafe { salt_tps_decoder_word(decoder) }
+}
+
+// ---- the receive session
+
+pub fn session_new() -> SaltSession {
+    unsafe { salt_session_new() }
+}
+
+pub fn session_reset(session: SaltSession) -> SaltSession {
+    unsafe { salt_session_reset(session) }
+}
+
+pub fn session_feed(session: SaltSession, symbol: &[Complex32], out: &mut [Complex32], journal: &mut [f32]) -> SaltSessionFed {
+    let ((symbol, symbol_length), (out, out_length)) = (floats(symbol), floats_mut(out));
+    unsafe { salt_session_feed(session, symbol, symbol_length, out, out_length, journal.as_mut_ptr(), journal.len()) }
+}
+
+pub fn session_step_back(session: SaltSession, journal: &[f32]) -> SaltSessionStepped {
+    unsafe { salt_session_step_back(session, journal.as_ptr(), journal.len()) }
+}
+
+pub fn session_phase(session: SaltSession) -> usize {
+    unsafe { salt_session_phase(session) }
+}
+
+pub fn session_word(session: SaltSession) -> SaltUnpacked {
+    unsafe { salt_session_word(session) }
+}

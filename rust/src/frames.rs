@@ -1,0 +1,123 @@
+//! The TPS frame, sent and received.
+
+use crate::call;
+use crate::complex::Complex32;
+use crate::refusal::{accepted, Refusal};
+use crate::sys::{SaltTpsDecoder, SaltTpsEncoder};
+use crate::words::{word_of, TpsWord};
+
+/// The TPS carriers of a symbol.
+pub const TPS_CARRIER_COUNT: usize = 17;
+/// The symbols of a frame, a bit of the word each.
+pub const TPS_SYMBOLS_PER_FRAME: usize = 68;
+
+/// The sender of a frame's TPS cells (EN 300 744, 4.6.3).
+///
+/// ```
+/// use saltkernel::fec::PunctureRate;
+/// use saltkernel::modulate::ConstellationOrder;
+/// use saltkernel::waveform::dvb_t::GuardInterval;
+/// use saltkernel::waveform::dvb_t_tps::{TpsDecoder, TpsEncoder, TpsWord};
+/// use saltkernel::Refusal;
+///
+/// let word = TpsWord {
+///     frame_number: 1,
+///     constellation: ConstellationOrder::Qpsk,
+///     code_rate_hp: PunctureRate::R1_2,
+///     guard: GuardInterval::G1_4,
+///     cell_id: 7,
+/// };
+/// let (mut encoder, mut decoder) = (TpsEncoder::new(), TpsDecoder::new());
+/// assert_eq!(decoder.word(), Err(Refusal::Incomplete));
+/// for bit in word.pack() {
+///     let cells = encoder.next_symbol(bit)?;
+///     assert_eq!(decoder.feed_symbol(&cells), Ok(bit));
+/// }
+/// assert_eq!(decoder.word(), Ok(word));
+/// assert_eq!(decoder.feed_symbol(&encoder.next_symbol(0)?), Err(Refusal::Full));
+/// # Ok::<(), Refusal>(())
+/// ```
+#[derive(Clone, Copy, Debug)]
+pub struct TpsEncoder {
+    state: SaltTpsEncoder,
+}
+
+impl Default for TpsEncoder {
+    fn default() -> Self {
+        Self::new()
+    }
+}
+
+impl TpsEncoder {
+    /// A sender at the start of a frame.
+    pub fn new() -> Self {
+        Self { state: call::tps_encoder_new() }
+    }
+
+    /// Goes back to the start of a frame.
+    pub fn reset(&mut self) {
+        self.state = call::tps_encoder_reset(self.state);
+    }
+
+    /// The TPS cells of the next symbol, in rising active order: at symbol 0 the signs of w, whatever the bit; later a 1 turns all signs. A bit above 1 is
+    /// [`Refusal::NotABit`].
+    pub fn next_symbol(&mut self, bit: u8) -> Result<[Complex32; TPS_CARRIER_COUNT], Refusal> {
+        let mut out = [Complex32::default(); TPS_CARRIER_COUNT];
+        self.next_symbol_into(bit, &mut out)?;
+        Ok(out)
+    }
+
+    /// [`next_symbol`](Self::next_symbol) into a lent output; gives 17. Refusals: [`Refusal::NotABit`], then [`Refusal::OutputShort`].
+    pub fn next_symbol_into(&mut self, bit: u8, out: &mut [Complex32]) -> Result<usize, Refusal> {
+        let sent = call::tps_encoder_next_symbol(self.state, bit, out);
+        self.state = sent.encoder;
+        accepted(sent.answer.number, sent.answer.count)
+    }
+}
+
+/// The receiver of a frame's TPS cells (EN 300 744, 4.6.3).
+#[derive(Clone, Copy, Debug)]
+pub struct TpsDecoder {
+    state: SaltTpsDecoder,
+}
+
+impl Default for TpsDecoder {
+    fn default() -> Self {
+        Self::new()
+    }
+}
+
+impl TpsDecoder {
+    /// A receiver at the start of a frame.
+    pub fn new() -> Self {
+        Self { state: call::tps_decoder_new() }
+    }
+
+    /// Goes back to the start of a frame.
+    pub fn reset(&mut self) {
+        self.state = call::tps_decoder_reset(self.state);
+    }
+
+    /// Reads the bit of a symbol's TPS cells, in rising active order: at symbol 0 it is 0; later 1 where the sum of the products with the previous symbol's
+    /// cells is below zero. Refusals: [`Refusal::Length`] for fewer than 17 cells, then [`Refusal::Full`] when 68 symbols stand.
+    pub fn feed_symbol(&mut self, cells: &[Complex32]) -> Result<u8, Refusal> {
+        let fed = call::tps_decoder_feed_symbol(self.state, cells);
+        self.state = fed.decoder;
+        accepted(fed.number, fed.bit)
+    }
+
+    /// Whether 68 symbols stand.
+    pub fn is_complete(&self) -> bool {
+        call::tps_decoder_is_complete(self.state) == 1
+    }
+
+    /// The bits of the symbols that stand.
+    pub fn bits(&self) -> &[u8] {
+        &self.state.bits[..self.state.count]
+    }
+
+    /// The word of 68 received bits. Refusals: [`Refusal::Incomplete`], [`Refusal::NoWord`], then [`Refusal::Reserved`].
+    pub fn word(&self) -> Result<TpsWord, Refusal> {
+        word_of(call::tps_decoder_word(self.state))
+    }
+}

@@ -1,0 +1,99 @@
+//! The refusals of document 01.
+
+use std::fmt;
+
+/// Why a call was refused, by document 01's name and number.
+///
+/// A refused call changes nothing: neither a lent slice nor the state it was made on.
+///
+/// ```
+/// use saltkernel::waveform::dvb_t::dvb_t_map_symbol;
+/// use saltkernel::Refusal;
+///
+/// assert_eq!(dvb_t_map_symbol(&[0, 1, 1]), Err(Refusal::Length));
+/// assert_eq!(dvb_t_map_symbol(&[0, 2]), Err(Refusal::NotABit));
+/// assert_eq!(Refusal::NotABit.number(), 2);
+/// assert_eq!(Refusal::NotABit.to_string(), "NOT A BIT");
+/// ```
+#[derive(Clone, Copy, Debug, PartialEq, Eq, Hash)]
+#[repr(u8)]
+pub enum Refusal {
+    /// An input slice, group size, byte count or carrier index is outside what the call takes.
+    Length = 1,
+    /// A bit argument, or an item of a bit slice, is above 1.
+    NotABit = 2,
+    /// A lent output or journal is shorter than needed.
+    OutputShort = 3,
+    /// No codeword lies within distance two.
+    NoWord = 4,
+    /// Constellation code 3, or rate code 5, 6 or 7.
+    Reserved = 5,
+    /// A symbol is fed when 68 stand.
+    Full = 6,
+    /// A step back when none stands.
+    Empty = 7,
+    /// A word is asked for with fewer than 68.
+    Incomplete = 8,
+    /// A line of the report program's input isn't 17 digits from 0-9 and a-f; no function of this crate gives it.
+    BadLine = 9,
+}
+
+impl Refusal {
+    /// All nine, by number.
+    pub const ALL: [Refusal; 9] = [
+        Refusal::Length,
+        Refusal::NotABit,
+        Refusal::OutputShort,
+        Refusal::NoWord,
+        Refusal::Reserved,
+        Refusal::Full,
+        Refusal::Empty,
+        Refusal::Incomplete,
+        Refusal::BadLine,
+    ];
+
+    /// Document 01's number, 1 to 9.
+    pub const fn number(self) -> u8 {
+        self as u8
+    }
+
+    /// Document 01's name.
+    pub const fn name(self) -> &'static str {
+        match self {
+            Refusal::Length => "LENGTH",
+            Refusal::NotABit => "NOT A BIT",
+            Refusal::OutputShort => "OUTPUT SHORT",
+            Refusal::NoWord => "NO WORD",
+            Refusal::Reserved => "RESERVED",
+            Refusal::Full => "FULL",
+            Refusal::Empty => "EMPTY",
+            Refusal::Incomplete => "INCOMPLETE",
+            Refusal::BadLine => "BAD LINE",
+        }
+    }
+
+    /// The refusal of a number; `None` for a number that none has.
+    pub const fn from_number(number: u8) -> Option<Refusal> {
+        if number >= 1 && number <= 9 {
+            Some(Self::ALL[number as usize - 1])
+        } else {
+            None
+        }
+    }
+}
+
+impl fmt::Display for Refusal {
+    fn fmt(&self, f: &mut fmt::Formatter<'_>) -> fmt::Result {
+        f.write_str(self.name())
+    }
+}
+
+impl std::error::Error for Refusal {}
+
+/// The value of an answer with number 0, else the refusal.
+pub(crate) fn accepted<T>(number: u8, value: T) -> Result<T, Refusal> {
+    match number {
+        0 => Ok(value),
+        _ => Err(Refusal::from_number(number).expect("the library gives document 01's numbers alone")),
+    }
+}

@@ -1,0 +1,90 @@
+//! The receive session.
+
+use crate::call;
+use crate::complex::Complex32;
+use crate::refusal::{accepted, Refusal};
+use crate::sys::SaltSession;
+use crate::words::{word_of, TpsWord};
+
+/// The f32 of a journal: the TPS cells of 68 symbols.
+const JOURNAL_FLOATS: usize = 2312;
+
+/// The receive session: the extractor and the TPS decoder joined, and it can step back. With n symbols standing the phase is n mod 4.
+///
+/// The journal that stepping back needs is the session's own, so nobody else can write to it.
+///
+/// ```
+/// use saltkernel::session::Session;
+/// use saltkernel::waveform::dvb_t::{tps_carrier_bins, GuardInterval, ScatteredPilotMapper};
+/// use saltkernel::waveform::dvb_t_tps::TpsEncoder;
+/// use saltkernel::{Complex32, Refusal};
+///
+/// let (mut mapper, mut encoder, mut session) = (ScatteredPilotMapper::new(GuardInterval::G1_32), TpsEncoder::new(), Session::new());
+/// let (data, mut symbol, mut out) = (vec![Complex32::new(0.5, 0.5); 1512], vec![Complex32::default(); 2048], vec![Complex32::default(); 1512]);
+/// for bit in [0, 1, 1] {
+///     mapper.map_symbol(&data, &mut symbol)?;
+///     for (bin, cell) in tps_carrier_bins().into_iter().zip(encoder.next_symbol(bit)?) {
+///         symbol[usize::from(bin)] = cell;
+///     }
+///     assert_eq!(session.feed(&symbol, &mut out), Ok(bit));
+///     assert_eq!(out, data);
+/// }
+/// assert_eq!((session.bits(), session.phase()), (&[0, 1, 1][..], 3));
+/// session.step_back()?;
+/// assert_eq!((session.bits(), session.phase()), (&[0, 1][..], 2));
+/// assert_eq!(session.word(), Err(Refusal::Incomplete));
+/// # Ok::<(), Refusal>(())
+/// ```
+#[derive(Clone, Debug)]
+pub struct Session {
+    state: SaltSession,
+    journal: Box<[f32; JOURNAL_FLOATS]>,
+}
+
+impl Default for Session {
+    fn default() -> Self {
+        Self::new()
+    }
+}
+
+impl Session {
+    /// A session with no symbol standing.
+    pub fn new() -> Self {
+        Self { state: call::session_new(), journal: Box::new([0.0; JOURNAL_FLOATS]) }
+    }
+
+    /// Goes back to no symbol standing.
+    pub fn reset(&mut self) {
+        self.state = call::session_reset(self.state);
+    }
+
+    /// Takes one symbol of 2,048 cells: gives its TPS bit, and writes its 1,512 data cells to the lent output, in rising active order. Refusals:
+    /// [`Refusal::Length`], [`Refusal::OutputShort`], then [`Refusal::Full`] when 68 symbols stand.
+    pub fn feed(&mut self, freq: &[Complex32], data_out: &mut [Complex32]) -> Result<u8, Refusal> {
+        let fed = call::session_feed(self.state, freq, data_out, &mut self.journal[..]);
+        self.state = fed.session;
+        accepted(fed.number, fed.bit)
+    }
+
+    /// Takes the latest standing symbol back; [`Refusal::Empty`] where none stands.
+    pub fn step_back(&mut self) -> Result<(), Refusal> {
+        let stepped = call::session_step_back(self.state, &self.journal[..]);
+        self.state = stepped.session;
+        accepted(stepped.number, ())
+    }
+
+    /// The phase of the next symbol, 0 to 3.
+    pub fn phase(&self) -> usize {
+        call::session_phase(self.state)
+    }
+
+    /// The TPS bits of the symbols that stand.
+    pub fn bits(&self) -> &[u8] {
+        &self.state.bits[..self.state.count]
+    }
+
+    /// The word of 68 standing symbols. Refusals: [`Refusal::Incomplete`], [`Refusal::NoWord`], then [`Refusal::Reserved`].
+    pub fn word(&self) -> Result<TpsWord, Refusal> {
+        word_of(call::session_word(self.state))
+    }
+}

@@ -1,0 +1,168 @@
+//! TPS: the code and the word.
+
+use crate::call;
+use crate::packets::count_of;
+use crate::refusal::{accepted, Refusal};
+use crate::sys::{SaltTpsWord, SaltUnpacked};
+
+/// The bits of a codeword.
+pub const TPS_CODEWORD_BITS: usize = 67;
+/// The information bits of a codeword.
+pub const TPS_INFO_BITS: usize = 53;
+/// The parity bits of a codeword.
+pub const TPS_PARITY_BITS: usize = 14;
+
+/// The codeword of 53 information bits: these, then 14 bits of parity. Refusals: [`Refusal::Length`], then [`Refusal::NotABit`].
+///
+/// ```
+/// use saltkernel::waveform::dvb_t_tps::{tps_bch_decode, tps_bch_encode};
+/// use saltkernel::Refusal;
+///
+/// let mut word = tps_bch_encode(&[1; 53])?;
+/// word[3] ^= 1;
+/// word[60] ^= 1;
+/// assert_eq!(tps_bch_decode(&word), Ok([1; 53]));
+/// assert_eq!(tps_bch_decode(&word[1..]), Err(Refusal::Length));
+/// # Ok::<(), Refusal>(())
+/// ```
+pub fn tps_bch_encode(info: &[u8]) -> Result<[u8; TPS_CODEWORD_BITS], Refusal> {
+    let mut out = [0; TPS_CODEWORD_BITS];
+    tps_bch_encode_into(info, &mut out)?;
+    Ok(out)
+}
+
+/// [`tps_bch_encode`] into a lent output; gives 67. Refusals: [`Refusal::Length`], [`Refusal::NotABit`], then [`Refusal::OutputShort`].
+pub fn tps_bch_encode_into(info: &[u8], out: &mut [u8]) -> Result<usize, Refusal> {
+    count_of(call::tps_bch_encode(info, out))
+}
+
+/// The 53 information bits of the codeword within distance two of 67 bits. Refusals: [`Refusal::Length`], [`Refusal::NotABit`], then
+/// [`Refusal::NoWord`].
+pub fn tps_bch_decode(codeword: &[u8]) -> Result<[u8; TPS_INFO_BITS], Refusal> {
+    let mut out = [0; TPS_INFO_BITS];
+    tps_bch_decode_into(codeword, &mut out)?;
+    Ok(out)
+}
+
+/// [`tps_bch_decode`] into a lent output; gives 53. Refusals: [`Refusal::Length`], [`Refusal::NotABit`], [`Refusal::OutputShort`], then
+/// [`Refusal::NoWord`].
+pub fn tps_bch_decode_into(codeword: &[u8], out: &mut [u8]) -> Result<usize, Refusal> {
+    count_of(call::tps_bch_decode(codeword, out))
+}
+
+/// The constellation of the data cells.
+#[derive(Clone, Copy, Debug, PartialEq, Eq, Hash)]
+pub enum ConstellationOrder {
+    /// Two bits a cell.
+    Qpsk,
+    /// Four bits a cell.
+    Qam16,
+    /// Six bits a cell.
+    Qam64,
+}
+
+/// The rate of the inner code.
+#[derive(Clone, Copy, Debug, PartialEq, Eq, Hash)]
+pub enum PunctureRate {
+    /// 1/2.
+    R1_2,
+    /// 2/3.
+    R2_3,
+    /// 3/4.
+    R3_4,
+    /// 5/6.
+    R5_6,
+    /// 7/8.
+    R7_8,
+}
+
+/// The guard interval, as a part of the symbol.
+#[derive(Clone, Copy, Debug, PartialEq, Eq, Hash)]
+pub enum GuardInterval {
+    /// 1/32.
+    G1_32,
+    /// 1/16.
+    G1_16,
+    /// 1/8.
+    G1_8,
+    /// 1/4.
+    G1_4,
+}
+
+const CONSTELLATIONS: [ConstellationOrder; 3] = [ConstellationOrder::Qpsk, ConstellationOrder::Qam16, ConstellationOrder::Qam64];
+const RATES: [PunctureRate; 5] = [PunctureRate::R1_2, PunctureRate::R2_3, PunctureRate::R3_4, PunctureRate::R5_6, PunctureRate::R7_8];
+const GUARDS: [GuardInterval; 4] = [GuardInterval::G1_32, GuardInterval::G1_16, GuardInterval::G1_8, GuardInterval::G1_4];
+
+/// The parameters that a frame signals (EN 300 744, 4.6.2).
+///
+/// ```
+/// use saltkernel::fec::PunctureRate;
+/// use saltkernel::modulate::ConstellationOrder;
+/// use saltkernel::waveform::dvb_t::GuardInterval;
+/// use saltkernel::waveform::dvb_t_tps::TpsWord;
+/// use saltkernel::Refusal;
+///
+/// let word = TpsWord {
+///     frame_number: 2,
+///     constellation: ConstellationOrder::Qam64,
+///     code_rate_hp: PunctureRate::R3_4,
+///     guard: GuardInterval::G1_8,
+///     cell_id: 0xA5,
+/// };
+/// let mut bits = word.pack();
+/// bits[5] ^= 1;
+/// bits[67] ^= 1;
+/// assert_eq!(TpsWord::unpack(&bits), Ok(word));
+/// assert_eq!(TpsWord::unpack(&bits[1..]), Err(Refusal::Length));
+/// ```
+#[derive(Clone, Copy, Debug, PartialEq, Eq, Hash)]
+pub struct TpsWord {
+    /// The frame's number; its low two bits are sent.
+    pub frame_number: u8,
+    /// The constellation of the data cells.
+    pub constellation: ConstellationOrder,
+    /// The rate of the inner code.
+    pub code_rate_hp: PunctureRate,
+    /// The guard interval.
+    pub guard: GuardInterval,
+    /// A byte of the cell id.
+    pub cell_id: u8,
+}
+
+impl TpsWord {
+    /// The 68 bits s0 to s67 of the word: s0 is zero, then the codeword.
+    pub fn pack(self) -> [u8; 68] {
+        let mut out = [0; 68];
+        self.pack_into(&mut out).expect("the output is as long as needed, and no code is reserved");
+        out
+    }
+
+    /// [`pack`](Self::pack) into a lent output; gives 68, or [`Refusal::OutputShort`].
+    pub fn pack_into(self, out: &mut [u8]) -> Result<usize, Refusal> {
+        let codes = SaltTpsWord {
+            frame_number: self.frame_number,
+            constellation: self.constellation as u8,
+            code_rate_hp: self.code_rate_hp as u8,
+            guard: self.guard as u8,
+            cell_id: self.cell_id,
+        };
+        count_of(call::tps_word_pack(codes, out))
+    }
+
+    /// The word that 68 received bits s0 to s67 say, with up to two wrong bits mended; s0 is ignored. Refusals: [`Refusal::Length`],
+    /// [`Refusal::NotABit`], [`Refusal::NoWord`], then [`Refusal::Reserved`].
+    pub fn unpack(bits: &[u8]) -> Result<Self, Refusal> {
+        word_of(call::tps_word_unpack(bits))
+    }
+}
+
+/// The word of an answer, or its refusal.
+pub(crate) fn word_of(answer: SaltUnpacked) -> Result<TpsWord, Refusal> {
+    accepted(answer.number, answer.word).map(|codes| TpsWord {
+        frame_number: codes.frame_number,
+        constellation: CONSTELLATIONS[usize::from(codes.constellation)],
+        code_rate_hp: RATES[usize::from(codes.code_rate_hp)],
+        guard: GUARDS[usize::from(codes.guard)],
+        cell_id: codes.cell_id,
+    })
+}

@@ -1,0 +1,53 @@
+/* The code of the TPS words. */
+#include "check.h"
+
+#include <string.h>
+
+/* Every codeword with no, one or two wrong bits is read as it was. */
+static void mended(const uint8_t *info, uint8_t *code) {
+    uint8_t back[SALT_TPS_INFORMATION_BITS];
+    for (size_t first = 0; first < SALT_TPS_CODEWORD_BITS; first++) {
+        for (size_t second = first; second < SALT_TPS_CODEWORD_BITS; second++) {
+            code[first] ^= 1;
+            code[second] ^= first == second ? 0 : 1;
+            memset(back, 9, sizeof back);
+            SaltCounted read = salt_tps_bch_decode(code, SALT_TPS_CODEWORD_BITS, back, sizeof back);
+            CHECK(read.number == SALT_ACCEPTED && read.count == sizeof back && memcmp(back, info, sizeof back) == 0);
+            code[first] ^= 1;
+            code[second] ^= first == second ? 0 : 1;
+        }
+    }
+    CHECK(salt_tps_bch_decode(code, SALT_TPS_CODEWORD_BITS, back, sizeof back).number == SALT_ACCEPTED && memcmp(back, info, sizeof back) == 0);
+}
+
+/* The parity of a codeword as a number. */
+static unsigned parity(const uint8_t *code) {
+    unsigned number = 0;
+    for (size_t i = SALT_TPS_INFORMATION_BITS; i < SALT_TPS_CODEWORD_BITS; i++) {
+        number = 2 * number + code[i];
+    }
+    return number;
+}
+
+void test_codes(void) {
+    uint8_t info[SALT_TPS_INFORMATION_BITS] = {0}, code[SALT_TPS_CODEWORD_BITS], none[SALT_TPS_CODEWORD_BITS] = {0};
+    CHECK(salt_tps_bch_encode(info, sizeof info, code, sizeof code).count == sizeof code && parity(code) == 0);
+    info[52] = 1;
+    CHECK(salt_tps_bch_encode(info, sizeof info, code, sizeof code).count == sizeof code && parity(code) == 0x0377);
+    CHECK(memcmp(code, info, sizeof info) == 0);
+    for (size_t i = 0; i < sizeof info; i++) {
+        info[i] = noise() & 1;
+    }
+    CHECK(salt_tps_bch_encode(info, sizeof info, code, sizeof code).number == SALT_ACCEPTED);
+    mended(info, code);
+
+    none[66 - 7] = none[66 - 3] = none[66] = 1;
+    SaltCounted refused = salt_tps_bch_decode(none, sizeof none, info, sizeof info);
+    CHECK(refused.number == SALT_NO_WORD && refused.count == 0);
+    none[0] = 2;
+    CHECK(salt_tps_bch_decode(none, sizeof none, info, 0).number == SALT_NOT_A_BIT);
+    CHECK(salt_tps_bch_decode(none, 66, info, 0).number == SALT_LENGTH);
+    info[0] = 255;
+    CHECK(salt_tps_bch_encode(info, sizeof info, code, 0).number == SALT_NOT_A_BIT);
+    CHECK(salt_tps_bch_encode(info, sizeof info - 1, code, 0).number == SALT_LENGTH);
+}
