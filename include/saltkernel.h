@@ -5,13 +5,14 @@
  *
  * A slice is two arguments, a pointer and a length in items. The pointer isn't null, even where the length is 0, and is aligned for its type.
  * The slices of one call don't overlap. A `const` one is only read; into any other the call writes what is said of it and nothing behind that.
+ * A pointer with no length beside it is a slice whose length is said at its function.
  *
  * Every function is defined for all values and all lengths. A call that can't be done is refused: its answer has the refusal's number,
  * every other part of the answer is 0 or the state as it went in, and every slice is unchanged. Number 0 is accepted. Of several refusals that
  * apply the first is given, in the order in which each function names them.
  *
- * State is passed and returned by value; no function keeps any, so calls may be made from any thread. What a state's fields hold is no secret:
- * a state that is copied is a second one, and a state that is made by hand is read as said at its type.
+ * State is passed and returned by value, or lent to salt_tps_decoder_feed_in_place; no function keeps any, so calls may be made from any thread. What a
+ * state's fields hold is no secret: a state that is copied is a second one, and a state that is made by hand is read as said at its type.
  *
  * A cell is a carrier's value, two floats: re, then im. A slice of n cells is 2 n floats, re and im in turn. A bit is a byte that is 0 or 1.
  *
@@ -434,6 +435,12 @@ typedef struct SaltTpsFed {
     SaltTpsDecoder decoder;
 } SaltTpsFed;
 
+/* The symbol's bit, or a refusal's number and the bit 0. */
+typedef struct SaltTpsBit {
+    uint8_t number;
+    uint8_t bit;
+} SaltTpsBit;
+
 /* A sender at the start of a frame. */
 SaltTpsEncoder salt_tps_encoder_new(void);
 
@@ -460,8 +467,21 @@ SaltTpsDecoder salt_tps_decoder_reset(SaltTpsDecoder decoder);
  */
 SaltTpsFed salt_tps_decoder_feed_symbol(SaltTpsDecoder decoder, const float *cells, size_t cells_length);
 
+/*
+ * The same on a receiver that is lent in parts, which are as it leaves them: 34 floats of previous cells, 68 bits and one count; of a SaltTpsDecoder d
+ * they are &d.prev[0].re, d.bits and &d.count. Nothing is moved, so it is quicker than by value. Refused, it changes nothing.
+ * Refusals: 1 LENGTH (fewer than 34 floats of cells), 6 FULL.
+ */
+SaltTpsBit salt_tps_decoder_feed_in_place(float *prev, uint8_t *bits, size_t *count, const float *cells, size_t cells_length);
+
 /* 1 where 68 symbols stand, else 0. */
 uint8_t salt_tps_decoder_is_complete(SaltTpsDecoder decoder);
+
+/*
+ * The received bits s0 and on, one for each symbol that stands. Answers how many, 0 to 68.
+ * Refusals: 3 OUTPUT SHORT.
+ */
+SaltCounted salt_tps_decoder_bits(SaltTpsDecoder decoder, uint8_t *out, size_t out_length);
 
 /*
  * The word of 68 received bits.

@@ -54,6 +54,12 @@ build_saltkernel() {
     (cd "$root" && rt staticlib saltkernel) >"$log" 2>&1 </dev/null || give_up "rt staticlib saltkernel did not succeed" "$log"
 }
 
+# Proves the report program and builds it where it isn't there or is stale.
+build_tpsreport() {
+    local log=$out/tpsreport.log
+    "$root/bin/tpsreport" >"$log" 2>&1 </dev/null || give_up "bin/tpsreport did not succeed" "$log"
+}
+
 # Compiles oracle/src/$1.rs to target/oracle/$1, with the further arguments for rustc.
 compile() {
     local name=$1 log=$out/$1.log

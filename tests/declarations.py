@@ -1,8 +1,8 @@
 """Holds the C header and the Rust declarations to the archive and to the proved source. Called by tests/declarations.
 
 Source, header and sys.rs are read into one form: a struct is its name and its fields, each a name and a type; a function is its name, its parameters and its
-result. A type is written as in Rust. A slice of the proved source, `x: &[T]`, is two parameters, `x: *const T` and `x_length: usize`. A struct `X` of a
-crate below that crosses the interface is `SaltX` there.
+result. A type is written as in Rust. A slice of the proved source, `x: &[T]`, is two parameters, `x: *const T` and `x_length: usize`; an array or a number that
+is lent, `x: &mut [T; N]` or `x: &mut T`, is a pointer alone, `x: *mut T`. A struct `X` of a crate below that crosses the interface is `SaltX` there.
 """
 
 import re
@@ -100,10 +100,12 @@ def read_structs(text, into):
 
 def lent(name, kind):
     """A parameter of the proved source as C sees it."""
-    match = re.fullmatch(r"&(mut )?\[(\w+)\]", kind)
+    match = re.fullmatch(r"&(mut )?(?:(\w+)|\[(\w+); \d+\]|\[(\w+)\])", kind)
     if not match:
         return [(name, kind)]
-    return [(name, f"*{'mut' if match[1] else 'const'} {match[2]}"), (f"{name}_length", "usize")]
+    change, number, array, item = match.groups()
+    pointer = (name, f"*{'mut' if change else 'const'} {number or array or item}")
+    return [pointer, (f"{name}_length", "usize")] if item else [pointer]
 
 
 def structs_below(root):

@@ -2,6 +2,9 @@
 
 mod bench_codes;
 mod bench_pilots;
+mod bench_report;
+mod bench_session;
+mod bench_tps;
 #[allow(dead_code)]
 mod points;
 #[allow(dead_code)]
@@ -11,6 +14,10 @@ mod salt;
 mod salt_codes;
 #[allow(dead_code)]
 mod salt_pilots;
+#[allow(dead_code)]
+mod salt_session;
+#[allow(dead_code)]
+mod salt_tps;
 
 use num_complex::Complex32;
 use orion_sdr::waveform::dvb_t as gray;
@@ -26,6 +33,8 @@ use std::time::Instant;
 const PACKET: usize = 188;
 /// Each side's best of so many rounds counts.
 const ROUNDS: usize = 100;
+/// And of so many for whole programs.
+const RUNS: usize = 10;
 /// One measurement takes at least so many seconds.
 const SPAN: f64 = 0.002;
 /// Points of a measurement's one round over them: the data carriers of four OFDM symbols.
@@ -33,23 +42,34 @@ const POINTS: usize = 4 * 1512;
 
 fn main() {
     let (mut bytes, mut calls, mut symbols) = (byte_rows(), call_rows(), bench_pilots::rows());
-    calls.extend(bench_codes::rows());
+    calls.extend(bench_codes::rows().into_iter().chain(bench_tps::rows()));
+    symbols.push(bench_session::feed());
+    let mut steps = vec![bench_session::step_back()];
+    let mut reports = vec![bench_report::row()];
     for _ in 0..ROUNDS {
-        bytes.iter_mut().chain(&mut calls).chain(&mut symbols).for_each(Row::measure);
+        bytes.iter_mut().chain(&mut calls).chain(&mut symbols).chain(&mut steps).for_each(Row::measure);
     }
-    println!("{:<28} {:>8} {:>15} {:>10} {:>10} {:>8} {:>7}", "function", "bytes", "orion-sdr MB/s", "ours MB/s", "copy MB/s", "ratio", "asked");
+    (0..RUNS).for_each(|_| reports.iter_mut().for_each(Row::measure));
+    println!("{:<34} {:>8} {:>15} {:>10} {:>10} {:>8} {:>7}", "function", "bytes", "orion-sdr MB/s", "ours MB/s", "copy MB/s", "ratio", "asked");
     bytes.iter().for_each(Row::print);
-    println!("{:<28} {:>8} {:>15} {:>10} {:>10} {:>8} {:>7}", "function", "bits", "orion-sdr Mc/s", "ours Mc/s", "", "ratio", "asked");
+    println!("{:<34} {:>8} {:>15} {:>10} {:>10} {:>8} {:>7}", "function", "bits", "orion-sdr Mc/s", "ours Mc/s", "", "ratio", "asked");
     calls.iter().for_each(Row::print);
-    println!("{:<28} {:>8} {:>15} {:>10} {:>10} {:>8} {:>7}", "function", "cells", "orion-sdr ks/s", "ours ks/s", "copy ks/s", "ratio", "asked");
+    println!("{:<34} {:>8} {:>15} {:>10} {:>10} {:>8} {:>7}", "function", "cells", "orion-sdr ks/s", "ours ks/s", "copy ks/s", "ratio", "asked");
     symbols.iter().for_each(Row::print);
+    println!("{:<34} {:>8} {:>15} {:>10} {:>10} {:>8} {:>7}", "function", "standing", "fed again kc/s", "ours kc/s", "", "ratio", "asked");
+    steps.iter().for_each(Row::print);
+    println!("{:<34} {:>8} {:>15} {:>10} {:>10} {:>8} {:>7}", "program", "lines", "in Rust Ml/s", "ours Ml/s", "", "ratio", "asked");
+    reports.iter().for_each(Row::print);
+    println!("Ml/s: million lines a second, best of {RUNS} runs of each program in turn; the one in Rust is oracle/src/report.rs over orion-sdr's TpsWord::unpack.");
     println!("Best of {ROUNDS} rounds in turn; ratio is ours by orion-sdr's, copy a plain copy of as many bytes: the limit.");
     println!("orion-sdr's ts_packetize and ts_depacketize allocate the Vec that they answer; ours write into a lent buffer.");
     println!("Mc/s: million calls a second, on points as a receiver sees them. orion-sdr's dvb_t_demap_symbol and dvb_t_soft_llr allocate");
     println!("the Vec that they answer, and one for each axis; ours write into a lent buffer and answer by value.");
     println!("orion-sdr's tps_bch_decode makes the tables of its field at each call.");
     println!("ks/s: thousand symbols a second, phase after phase; both sides' objects are made once and write into a lent buffer.");
-    let rows: Vec<Row> = bytes.into_iter().chain(calls).chain(symbols).collect();
+    println!("Session::feed is beside orion-sdr's extract_symbol and feed_symbol together; Session::step_back beside our own feeds of all that stand");
+    println!("(kc/s: thousand calls a second, all the feeds being one).");
+    let rows: Vec<Row> = bytes.into_iter().chain(calls).chain(symbols).chain(steps).chain(reports).collect();
     let below = rows.iter().filter(|row| row.below()).count();
     let asked = rows.iter().filter(|row| row.asked.is_some()).count();
     println!("{} of {asked} asked ratios met", asked - below);
@@ -95,8 +115,8 @@ fn repeated(mut action: impl FnMut() + 'static) -> Action {
     Box::new(move |times| (0..times).for_each(|_| action()))
 }
 
-/// One line of a table: the bytes of a call, the bits of a group or the cells that a call writes, and how many bytes, calls or thousandths
-/// of a symbol an action comes to.
+/// One line of a table: the bytes of a call, the bits of a group, the cells that a call writes or the symbols that stand, and how many bytes,
+/// calls, thousandths of a call or thousandths of a symbol an action comes to.
 struct Row {
     name: &'static str,
     size: usize,
@@ -144,7 +164,7 @@ impl Row {
         let asked = self.asked.map_or("-".to_string(), |asked| asked.to_string());
         let mark = if self.below() { "  below" } else { "" };
         println!(
-            "{:<28} {:>8} {:>15} {:>10} {copy:>10} {:>8.2} {:>7}{mark}",
+            "{:<34} {:>8} {:>15} {:>10} {copy:>10} {:>8.2} {:>7}{mark}",
             self.name, self.size, speed(&self.orion), speed(&self.ours), self.ratio(), asked
         );
     }

@@ -13,13 +13,13 @@ const INFORMATION: usize = 53;
 /// Bits of a codeword.
 const CODEWORD: usize = 67;
 /// Document 01's LENGTH.
-const LENGTH: u8 = 1;
+pub const LENGTH: u8 = 1;
 /// Document 01's NOT A BIT.
-const NOT_A_BIT: u8 = 2;
+pub const NOT_A_BIT: u8 = 2;
 /// Document 01's OUTPUT SHORT.
-const OUTPUT_SHORT: u8 = 3;
+pub const OUTPUT_SHORT: u8 = 3;
 /// Document 01's NO WORD.
-const NO_WORD: u8 = 4;
+pub const NO_WORD: u8 = 4;
 /// So many random informations are encoded, and so many words far from their codeword decoded.
 const WORDS: usize = 1_000_000;
 /// Each remainder is tried with so many informations.
@@ -138,7 +138,7 @@ fn lengths_and_items(random: &mut Random, takes: usize, needed: usize, compare: 
 }
 
 /// Zeros but for two items that cancel: alike, and with 256 as their sum.
-fn two_items(random: &mut Random, byte: u8, length: usize) -> [Vec<u8>; 2] {
+pub fn two_items(random: &mut Random, byte: u8, length: usize) -> [Vec<u8>; 2] {
     let first = random.below(length);
     let second = (first + random.between(1, length - 1)) % length;
     [byte, byte.wrapping_neg()].map(|other| {
@@ -149,7 +149,7 @@ fn two_items(random: &mut Random, byte: u8, length: usize) -> [Vec<u8>; 2] {
 }
 
 /// The bits with those turned over that a number has ones for.
-fn turned<const N: usize>(bits: [u8; N], places: u128) -> [u8; N] {
+pub fn turned<const N: usize>(bits: [u8; N], places: u128) -> [u8; N] {
     std::array::from_fn(|place| bits[place] ^ (places >> place & 1) as u8)
 }
 
@@ -160,7 +160,7 @@ fn up_to_two(length: usize) -> impl Iterator<Item = u128> {
 }
 
 /// So many different places of a codeword, as the ones of a number.
-fn some_places(random: &mut Random, count: usize) -> u128 {
+pub fn some_places(random: &mut Random, count: usize) -> u128 {
     let mut places = 0u128;
     while (places.count_ones() as usize) < count {
         places |= 1 << random.below(CODEWORD);
@@ -169,7 +169,7 @@ fn some_places(random: &mut Random, count: usize) -> u128 {
 }
 
 /// Random information.
-fn information(random: &mut Random) -> [u8; INFORMATION] {
+pub fn information(random: &mut Random) -> [u8; INFORMATION] {
     turned([0; INFORMATION], u128::from(random.next()))
 }
 
@@ -242,6 +242,18 @@ impl Subject for Encode {
     }
 }
 
+/// Words with the same remainder and fewer ones: a codeword added, the nearest, that of the information or one with a single information bit.
+pub fn with_fewer_ones(word: &[u8]) -> Vec<Vec<u8>> {
+    if word.len() != CODEWORD || word.iter().any(|bit| *bit > 1) {
+        return vec![];
+    }
+    let ones = |bits: &[u8]| bits.iter().filter(|bit| **bit == 1).count();
+    let single = (0..INFORMATION).map(|place| turned([0; INFORMATION], 1 << place));
+    let informations = orion::tps_bch_decode(word).into_iter().chain(word[..INFORMATION].try_into()).chain(single);
+    let added = informations.map(|info| orion::tps_bch_encode(&info).iter().zip(word).map(|(one, two)| one ^ two).collect());
+    added.filter(|less: &Vec<u8>| ones(less) < ones(word)).collect()
+}
+
 struct Decode;
 
 impl Decode {
@@ -259,18 +271,6 @@ impl Decode {
             let wrong = random.between(3, 6);
             see(turned(codeword(random), some_places(random, wrong)));
         }
-    }
-
-    /// Words with the same remainder and fewer ones: a codeword added, the nearest, that of the information or one with a single information bit.
-    fn with_fewer_ones(word: &[u8]) -> Vec<Vec<u8>> {
-        if word.len() != CODEWORD || word.iter().any(|bit| *bit > 1) {
-            return vec![];
-        }
-        let ones = |bits: &[u8]| bits.iter().filter(|bit| **bit == 1).count();
-        let single = (0..INFORMATION).map(|place| turned([0; INFORMATION], 1 << place));
-        let informations = orion::tps_bch_decode(word).into_iter().chain(word[..INFORMATION].try_into()).chain(single);
-        let added = informations.map(|info| orion::tps_bch_encode(&info).iter().zip(word).map(|(one, two)| one ^ two).collect());
-        added.filter(|less: &Vec<u8>| ones(less) < ones(word)).collect()
     }
 }
 
@@ -318,7 +318,7 @@ impl Subject for Decode {
     }
 
     fn smaller<'a>(&'a self, case: &'a Coding) -> Box<dyn Iterator<Item = Coding> + 'a> {
-        let words = Self::with_fewer_ones(&case.bits).into_iter().map(|bits| Coding { bits, room: case.room });
+        let words = with_fewer_ones(&case.bits).into_iter().map(|bits| Coding { bits, room: case.room });
         Box::new(words.chain(case.smaller()))
     }
 

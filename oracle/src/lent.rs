@@ -28,6 +28,16 @@ impl Item for u16 {
     }
 }
 
+impl Item for usize {
+    fn guard(place: usize) -> usize {
+        0xC7C7_0000 + place * 29
+    }
+
+    fn same(self, other: usize) -> bool {
+        self == other
+    }
+}
+
 impl Item for f32 {
     fn guard(place: usize) -> f32 {
         f32::from_bits(0xC7C7_0000 + (place * 29 % 65_521) as u32)

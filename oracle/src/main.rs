@@ -2,6 +2,7 @@
 //! A new module is a file with its `Subject`s and a `compare`, and two lines here; its C functions stand in salt.rs or a file of their own.
 
 mod answer;
+mod cells;
 mod codes;
 mod dispersal;
 mod gray;
@@ -10,12 +11,22 @@ mod lent;
 mod pilots;
 mod points;
 mod random;
+mod receiver;
 mod salt;
 mod salt_codes;
 mod salt_pilots;
+mod salt_session;
+mod salt_tps;
+mod sender;
+mod session;
+mod session_calls;
+mod session_scripts;
+mod session_sides;
 mod shrink;
+mod signals;
 mod symbols;
 mod ts;
+mod words;
 
 /// The seed of a run that names none.
 const SEED: u64 = 300_744;
@@ -29,6 +40,10 @@ fn main() {
     pilots::compare(&mut run);
     symbols::compare(&mut run);
     codes::compare(&mut run);
+    words::compare(&mut run);
+    sender::compare(&mut run);
+    receiver::compare(&mut run);
+    session::compare(&mut run);
     run.finish();
 }
 

@@ -275,7 +275,7 @@ fn no_carriers(length: usize) -> Vec<u16> {
 }
 
 /// How a lent output of values stands before a call: floats that a value could be mixed up with, or not be cleared from.
-fn no_values(length: usize) -> Vec<f32> {
+pub fn no_values(length: usize) -> Vec<f32> {
     let patterns = [0x7fc1_2345, 0xc020_0000, 0x7f80_0000, 0x8000_0000, 0xff80_0000, 0xffc0_0001, 0x0000_0001, 0x40e0_0000, 0x7fa0_0000];
     (0..length).map(|place| f32::from_bits(patterns[place % patterns.len()])).collect()
 }

@@ -30,7 +30,7 @@ pub struct SaltPacket {
 
 /// A point with its two coordinates.
 #[repr(C)]
-#[derive(Clone, Copy)]
+#[derive(Clone, Copy, Debug)]
 pub struct SaltCell {
     pub re: f32,
     pub im: f32,

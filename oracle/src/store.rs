@@ -4,6 +4,9 @@
 mod points;
 #[allow(dead_code)]
 mod random;
+mod store_codes;
+mod store_symbols;
+mod store_tps;
 
 use num_complex::Complex32;
 use orion_sdr::waveform::dvb_t as gray;
@@ -16,6 +19,10 @@ use random::Random;
 const SEED: u64 = 1_504;
 /// Bytes of a packet.
 const PACKET: usize = 188;
+/// The bytes that the replay has room for.
+const ROOM: usize = 786_432;
+/// The digits of the bytes of a field that the replay has room for.
+const FIELD: usize = 32_768;
 
 fn main() {
     let file = std::env::args().nth(1).expect("store FILE");
@@ -29,9 +36,18 @@ fn main() {
     map(&mut lines);
     demap(&mut lines);
     soft(&mut lines);
-    assert!(lines.text.len() < 250_000, "the file is too large");
+    store_codes::encode(&mut lines);
+    store_codes::decode(&mut lines);
+    store_codes::pack(&mut lines);
+    store_codes::unpack(&mut lines);
+    store_tps::send(&mut lines);
+    store_tps::receive(&mut lines);
+    store_symbols::extract(&mut lines);
+    store_symbols::mapped(&mut lines);
+    store_symbols::session(&mut lines);
+    assert!(lines.text.len() < ROOM, "the file is too large");
     std::fs::write(&file, &lines.text).expect("the stored answers can be written");
-    println!("{} lines, {} of them with a turned bit, {} bytes", lines.count(""), lines.count("~"), lines.text.len());
+    println!("{} lines, {} of them wrong on purpose, {} bytes", lines.count(""), lines.count("~"), lines.text.len());
 }
 
 /// The lines so far, and where random inputs come from.
@@ -47,6 +63,11 @@ impl Lines {
         self.line(format!("{function} {number} {} {output}", hexadecimal(input)));
     }
 
+    /// Adds a refusal of document 01's that stands for orion-sdr's None.
+    fn refused(&mut self, function: &str, number: usize, input: &[u8], refusal: u8) {
+        self.line(format!("{function} {number} {} !{refusal}", hexadecimal(input)));
+    }
+
     /// Adds an answer with one bit turned, which the replay must call different.
     fn turned(&mut self, function: &str, number: usize, input: &[u8], output: &[u8], bit: usize) {
         let mut wrong = output.to_vec();
@@ -57,7 +78,7 @@ impl Lines {
     /// Adds a line that keeps the sizes which the replay can hold.
     fn line(&mut self, line: String) {
         let fields: Vec<&str> = line.split(' ').collect();
-        assert!(fields.len() == 4 && fields[2].len() <= 4000 && fields[3].len() <= 6000 && line.len() <= 12_000, "a line is too long");
+        assert!(fields.len() == 4 && fields[2].len() <= FIELD && fields[3].len() <= FIELD, "a line is too long");
         self.text.push_str(&line);
         self.text.push('\n');
     }

@@ -1,7 +1,9 @@
-//! A safe function over each function of the C interface, and nothing more: a slice becomes its pointer and its length.
+//! A safe function over each function of the C interface, and nothing more: a slice becomes its pointer and its length, and a receiver that is lent the
+//! pointers of its three parts.
 //!
-//! Why each is safe: the library is proved to read and write only inside the slices that it is given, for all lengths and values; a slice of `Complex32`,
-//! `Active` or `Bin` has the layout of its numbers; and a result is plain numbers, each of whose values is one of its type.
+//! Why each is safe: the library is proved to read and write only inside the slices and parts that it is given, for all lengths and values; a slice of
+//! `Complex32`, `Active` or `Bin`, and the cells of a receiver, have the layout of their numbers; and a result is plain numbers, each of whose values is one
+//! of its type.
 
 use crate::carrier::{Active, Bin};
 use crate::complex::Complex32;
@@ -224,13 +226,23 @@ pub fn tps_decoder_reset(decoder: SaltTpsDecoder) -> SaltTpsDecoder {
     unsafe { salt_tps_decoder_reset(decoder) }
 }
 
+#[cfg(test)]
 pub fn tps_decoder_feed_symbol(decoder: SaltTpsDecoder, cells: &[Complex32]) -> SaltTpsFed {
     let (cells, cells_length) = floats(cells);
     unsafe { salt_tps_decoder_feed_symbol(decoder, cells, cells_length) }
 }
 
+pub fn tps_decoder_feed_in_place(decoder: &mut SaltTpsDecoder, cells: &[Complex32]) -> SaltTpsBit {
+    let ((cells, cells_length), SaltTpsDecoder { prev, bits, count }) = (floats(cells), decoder);
+    unsafe { salt_tps_decoder_feed_in_place(prev.as_mut_ptr().cast(), bits.as_mut_ptr(), count, cells, cells_length) }
+}
+
 pub fn tps_decoder_is_complete(decoder: SaltTpsDecoder) -> u8 {
     unsafe { salt_tps_decoder_is_complete(decoder) }
+}
+
+pub fn tps_decoder_bits(decoder: SaltTpsDecoder, out: &mut [u8]) -> SaltCounted {
+    unsafe { salt_tps_decoder_bits(decoder, out.as_mut_ptr(), out.len()) }
 }
 
 pub fn tps_decoder_word(decoder: SaltTpsDecoder) -> SaltUnpacked {

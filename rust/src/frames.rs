@@ -101,8 +101,7 @@ impl TpsDecoder {
     /// Reads the bit of a symbol's TPS cells, in rising active order: at symbol 0 it is 0; later 1 where the sum of the products with the previous symbol's
     /// cells is below zero. Refusals: [`Refusal::Length`] for fewer than 17 cells, then [`Refusal::Full`] when 68 symbols stand.
     pub fn feed_symbol(&mut self, cells: &[Complex32]) -> Result<u8, Refusal> {
-        let fed = call::tps_decoder_feed_symbol(self.state, cells);
-        self.state = fed.decoder;
+        let fed = call::tps_decoder_feed_in_place(&mut self.state, cells);
         accepted(fed.number, fed.bit)
     }
 
@@ -113,11 +112,42 @@ impl TpsDecoder {
 
     /// The bits of the symbols that stand.
     pub fn bits(&self) -> &[u8] {
+        // The state is always one that the library made, so at most 68 symbols stand and each bit is 0 or 1.
         &self.state.bits[..self.state.count]
+    }
+
+    /// [`bits`](Self::bits) into a lent output; gives how many. Refusal: [`Refusal::OutputShort`].
+    pub fn bits_into(&self, out: &mut [u8]) -> Result<usize, Refusal> {
+        let answer = call::tps_decoder_bits(self.state, out);
+        accepted(answer.number, answer.count)
     }
 
     /// The word of 68 received bits. Refusals: [`Refusal::Incomplete`], [`Refusal::NoWord`], then [`Refusal::Reserved`].
     pub fn word(&self) -> Result<TpsWord, Refusal> {
         word_of(call::tps_decoder_word(self.state))
+    }
+}
+
+#[cfg(test)]
+mod tests {
+    use super::*;
+
+    /// A receiver's state as numbers, floats by their bits.
+    fn numbers(state: &SaltTpsDecoder) -> (Vec<[u32; 2]>, Vec<u8>, usize) {
+        (state.prev.iter().map(|cell| [cell.re.to_bits(), cell.im.to_bits()]).collect(), state.bits.to_vec(), state.count)
+    }
+
+    #[test]
+    fn a_symbol_is_fed_in_place_as_by_value() {
+        let (mut encoder, mut decoder) = (TpsEncoder::new(), TpsDecoder::new());
+        for n in 0..TPS_SYMBOLS_PER_FRAME + 2 {
+            let cells = encoder.next_symbol((n * n % 7 % 2) as u8).unwrap();
+            for length in [TPS_CARRIER_COUNT - 1, TPS_CARRIER_COUNT] {
+                let by_value = call::tps_decoder_feed_symbol(decoder.state, &cells[..length]);
+                assert_eq!(decoder.feed_symbol(&cells[..length]), accepted(by_value.number, by_value.bit));
+                assert_eq!(numbers(&decoder.state), numbers(&by_value.decoder));
+            }
+        }
+        assert!(decoder.is_complete());
     }
 }

@@ -252,6 +252,13 @@ pub struct SaltTpsFed {
     pub decoder: SaltTpsDecoder,
 }
 
+#[repr(C)]
+#[derive(Clone, Copy)]
+pub struct SaltTpsBit {
+    pub number: u8,
+    pub bit: u8,
+}
+
 extern "C" {
     pub fn salt_tps_encoder_new() -> SaltTpsEncoder;
     pub fn salt_tps_encoder_reset(encoder: SaltTpsEncoder) -> SaltTpsEncoder;
@@ -259,7 +266,9 @@ extern "C" {
     pub fn salt_tps_decoder_new() -> SaltTpsDecoder;
     pub fn salt_tps_decoder_reset(decoder: SaltTpsDecoder) -> SaltTpsDecoder;
     pub fn salt_tps_decoder_feed_symbol(decoder: SaltTpsDecoder, cells: *const f32, cells_length: usize) -> SaltTpsFed;
+    pub fn salt_tps_decoder_feed_in_place(prev: *mut f32, bits: *mut u8, count: *mut usize, cells: *const f32, cells_length: usize) -> SaltTpsBit;
     pub fn salt_tps_decoder_is_complete(decoder: SaltTpsDecoder) -> u8;
+    pub fn salt_tps_decoder_bits(decoder: SaltTpsDecoder, out: *mut u8, out_length: usize) -> SaltCounted;
     pub fn salt_tps_decoder_word(decoder: SaltTpsDecoder) -> SaltUnpacked;
 }
 

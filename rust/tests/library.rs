@@ -255,6 +255,9 @@ fn a_frame_is_sent_and_received() {
         let sent = encoder.next_symbol(bit).unwrap();
         assert_eq!(decoder.feed_symbol(&sent[..16]), Err(Refusal::Length));
         assert_eq!(decoder.feed_symbol(&sent), Ok(bit));
+        let mut out = [9; 69];
+        assert_eq!(decoder.bits_into(&mut out[..n]), Err(Refusal::OutputShort));
+        assert_eq!((decoder.bits_into(&mut out), &out[..=n], out[n + 1]), (Ok(n + 1), decoder.bits(), 9));
     }
     assert_eq!((decoder.is_complete(), decoder.bits(), decoder.word()), (true, &WORD.pack()[..], Ok(WORD)));
     assert_eq!(decoder.feed_symbol(&[ZERO; 17]), Err(Refusal::Full));

@@ -72,6 +72,17 @@ static uint8_t pack(const Lent *lent) { return salt_tps_word_pack(word, AT(0)).n
 static uint8_t unpack(const Lent *lent) { return salt_tps_word_unpack(AT(0)).number; }
 static uint8_t next_symbol(const Lent *lent) { return salt_tps_encoder_next_symbol(salt_tps_encoder_new(), 1, AT(0)).answer.number; }
 static uint8_t feed_symbol(const Lent *lent) { return salt_tps_decoder_feed_symbol(salt_tps_decoder_new(), AT(0)).number; }
+static uint8_t feed_symbol_in_place(const Lent *lent) {
+    SaltTpsDecoder decoder = salt_tps_decoder_new();
+    return salt_tps_decoder_feed_in_place(&decoder.prev[0].re, decoder.bits, &decoder.count, AT(0)).number;
+}
+static uint8_t bits_of(size_t count, const Lent *lent) {
+    SaltTpsDecoder decoder = salt_tps_decoder_new();
+    decoder.count = count;
+    return salt_tps_decoder_bits(decoder, AT(0)).number;
+}
+static uint8_t bits_of_five(const Lent *lent) { return bits_of(5, lent); }
+static uint8_t bits_of_frame(const Lent *lent) { return bits_of(SIZE_MAX, lent); }
 
 /* Functions of the session. A session with one symbol standing has one to take back. */
 static uint8_t session_feed(const Lent *lent) { return salt_session_feed(salt_session_new(), AT(0), AT(1), AT(2)).number; }
@@ -112,6 +123,9 @@ static const Function functions[] = {
     {"TpsWord::unpack", unpack, {{1, SALT_TPS_WORD_BITS, READ, ONE_LENGTH}}},
     {"TpsEncoder::next_symbol", next_symbol, {{4, SALT_TPS_FLOATS, FRONT, OUTPUT}}},
     {"TpsDecoder::feed_symbol", feed_symbol, {{4, SALT_TPS_FLOATS, READ, AT_LEAST}}},
+    {"TpsDecoder::feed_symbol, in place", feed_symbol_in_place, {{4, SALT_TPS_FLOATS, READ, AT_LEAST}}},
+    {"TpsDecoder::bits, 5", bits_of_five, {{1, 5, FRONT, OUTPUT}}},
+    {"TpsDecoder::bits, 68", bits_of_frame, {{1, SALT_TPS_WORD_BITS, FRONT, OUTPUT}}},
     {"Session::feed", session_feed, {{4, SALT_SYMBOL_FLOATS, READ, AT_LEAST}, {4, SALT_DATA_FLOATS, FRONT, OUTPUT}, {4, SALT_JOURNAL_FLOATS, FRONT, OUTPUT}}},
     {"Session::step_back", session_step_back, {{4, SALT_JOURNAL_FLOATS, READ, OUTPUT}}},
 };

@@ -15,9 +15,9 @@ use Rattle.ground.specs.Refusal.{ACCEPTED, LENGTH, NOT-A-BIT, OUTPUT-SHORT, NO-
 use Rattle.ground.specs.Answer.{counted, kept, written}
 use Rattle.ground.specs.declared.Counted.{Counted}
 use Rattle.ground.specs.declared.Counted.the-variants.{Count, Refused}
-use Rattle.bch.specs.Poly.{Bits}
+use Rattle.ground.specs.Bits.{Bits, areBits}
 use Rattle.bch.specs.Code.{Codeword, distance, encode}
-use Rattle.bch.specs.Promise.{areBits, lentNo, encodeNo, encodeAnswer, encodeLeaves, Answers, Decodes}
+use Rattle.bch.specs.Promise.{lentNo, encodeNo, encodeAnswer, encodeLeaves, Answers, Decodes}
 use Rattle.bch.specs.Inner.{mended, Changes}
 use Rattle.bch.specs.Search.{Rising}
 use Rattle.bch.specs.declared.inner.Found.{Found}

@@ -10,7 +10,9 @@ use lib.ListN.{length}
 use Rattle.bch.specs.Search.{Syndromes, added, Rising}
 use Rattle.bch.proofs.Xor.{xor-front}
 use Rattle.bch.proofs.Locator.{at, loc, at-apart}
-use Rattle.bch.proofs.Syndromes.{syn1-zero, single-syn1, single-nonzero, pair-nonzero, added-lt, of, single-root, pair-roots, only-root, sum-roots}
+use Rattle.bch.proofs.Syndromes.{syn1-zero}
+use Rattle.bch.proofs.Wrong.{single-syn1, single-nonzero, pair-nonzero, added-lt}
+use Rattle.bch.proofs.Roots.{of, single-root, pair-roots, only-root, sum-roots}
 
 at-inj : (i j : ℕ) → i < 67 → j < 67 → at i ≡ at j → i ≡ j
 at-inj i j hi hj e = by (ℕ-discrete i j) (decLe i j)

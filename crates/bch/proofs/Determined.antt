@@ -13,12 +13,13 @@ use borrow.Author.Tests.{eqb-true}
 use Rattle.ground.specs.Refusal.{ACCEPTED, LENGTH, NOT-A-BIT, OUTPUT-SHORT, NO-WORD}
 use Rattle.ground.specs.Answer.{pick, counted, written}
 use Rattle.ground.specs.declared.Counted.{Counted}
-use Rattle.bch.specs.Poly.{Bits, digitsOf}
+use Rattle.ground.specs.Bits.{Bits, areBits}
+use Rattle.ground.specs.Digits.{digitsOf}
+use Rattle.ground.proofs.Bits.{bits-of, are-bits}
 use Rattle.bch.specs.Code.{Codeword, distance, parity, encode}
-use Rattle.bch.specs.Promise.{areBits, encodeAnswer, encodeLeaves, Corrected, Refuses, Lone, Answers, Decodes}
+use Rattle.bch.specs.Promise.{encodeAnswer, encodeLeaves, Corrected, Refuses, Lone, Answers, Decodes}
 use Rattle.bch.proofs.Distance.{unique}
 use Rattle.bch.proofs.Encoding.{encode-codeword}
-use Rattle.bch.proofs.Checking.{bits-of, are-bits}
 use Rattle.bch.proofs.Answering.{accepted}
 
 refused-same : (k₀ : ℕ) (o a b : List ℕ) (r q : Counted) → Refuses k₀ o r a → Refuses k₀ o q b → (r ≡ q) × (a ≡ b)

@@ -11,11 +11,12 @@ use lib.Dec.{eqb}
 use lib.ListN.{length, replicate, getD}
 use borrow.Author.Tests.{eqb-true, eqb-false}
 use Rattle.ground.specs.Answer.{pick}
-use Rattle.ground.proofs.Xor.{bit-cases}
-use Rattle.bch.specs.Poly.{Bits, divisionStep}
+use Rattle.ground.specs.Bits.{Bits}
+use Rattle.ground.proofs.Xor.{bit-cases, xor-assoc}
+use Rattle.bch.specs.Poly.{divisionStep}
 use Rattle.bch.specs.Code.{turn, remainderOf, Codeword, places, distance}
 use Rattle.bch.specs.Search.{power, column, added, Rising}
-use Rattle.bch.proofs.Xor.{xor-assoc, xor-zero-eq}
+use Rattle.bch.proofs.Xor.{xor-zero-eq}
 use Rattle.bch.proofs.Turns.{turn-lt, turn-xor, rem-xor, power-rem}
 use Rattle.bch.proofs.Bound.{added-inj}
 

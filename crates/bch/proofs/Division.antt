@@ -10,9 +10,11 @@ use lib.Arith.{digits-lt}
 use lib.Pow.{pow-pos}
 use lib.Bits.{bitXor, xor-shr, xor-block, xor-self, xor-comm, xor-zero-r}
 use lib.ListN.{length, replicate}
-use Rattle.ground.proofs.Xor.{bit-cases, xor-again}
-use Rattle.bch.specs.Poly.{Bits, valueOf, productOf, divisionStep, remainderBy}
-use Rattle.bch.proofs.Xor.{xor-assoc, xor-swap, digits-times}
+use Rattle.ground.specs.Bits.{Bits}
+use Rattle.ground.specs.Digits.{valueOf}
+use Rattle.ground.proofs.Xor.{bit-cases, xor-again, xor-assoc}
+use Rattle.bch.specs.Poly.{productOf, divisionStep, remainderBy}
+use Rattle.bch.proofs.Xor.{xor-swap, digits-times}
 
 module _ (n g : ℕ) (monic : g / 2 ^ n ≡ 1) where
   lead : (r b : ℕ) → r < 2 ^ n → b < 2 → (r * 2 + b) / 2 ^ n < 2

@@ -2,15 +2,17 @@
 -- Assumes nothing.
 use mathlib.Core.Path.{_≡_, sym, ap, ap₂, _∙_}
 use mathlib.Core.List.{List, _++_}
-use Prim.Native.Nat.{ℕ, _+_, _-_, _^_, _<_, _≤_}
+use Prim.Native.Nat.{ℕ, _^_, _<_, _≤_}
 use native.Mathlib.Omega.{arith}
 use lib.Bits.{bitXor, xor-self}
 use lib.ListN.{length, replicate, length-append, take, drop, length-drop, take-append-drop}
 use lib.Seq.{take-at, length-take-le}
-use Rattle.bch.specs.Poly.{Bits, digitsOf, valueOf}
+use Rattle.ground.specs.Bits.{Bits}
+use Rattle.ground.specs.Digits.{digitsOf, valueOf}
+use Rattle.ground.proofs.Bits.{zeros-bits, bits-append, bits-take, bits-drop}
+use Rattle.ground.proofs.Digits.{digits-bits, digits-length, digits-number, small-digits}
 use Rattle.bch.specs.Code.{remainderOf, Codeword, parity, encode, distance}
 use Rattle.bch.proofs.Xor.{xor-zero-eq}
-use Rattle.bch.proofs.Digits.{zeros-bits, bits-append, bits-take, bits-drop, digits-bits, digits-length, digits-number, small-digits}
 use Rattle.bch.proofs.Turns.{rem-lt, rem-xor, rem-append, small-rem}
 use Rattle.bch.proofs.Distance.{distance-five}
 

@@ -7,15 +7,16 @@ use lib.ListN.{length, replicate}
 use Rattle.ground.specs.Refusal.{NO-WORD}
 use Rattle.ground.specs.Answer.{counted}
 use Rattle.ground.specs.declared.Counted.{Counted}
-use Rattle.bch.specs.Poly.{Bits, divisionStep}
+use Rattle.ground.specs.Bits.{Bits}
+use Rattle.ground.proofs.Bits.{zeros-bits, bits-append}
+use Rattle.bch.specs.Poly.{divisionStep}
 use Rattle.bch.specs.Code.{remainderOf, parity}
 use Rattle.bch.specs.Field.{timesX}
 use Rattle.bch.specs.Promise.{Lone, Decodes}
 use Rattle.bch.specs.Search.{syn1}
-use Rattle.bch.proofs.Digits.{zeros-bits, bits-append}
-use Rattle.bch.proofs.Syndromes.{lone}
 use Rattle.bch.proofs.Mending.{none-near}
 use Rattle.bch.proofs.Determined.{refuses}
+use Rattle.bch.proofs.Wrong.{lone}
 
 -- (4) zero information has zero parity
 pub zero-parity : parity (replicate 53 0) ≡ 0

@@ -3,18 +3,20 @@
 -- Assumes nothing.
 use mathlib.Core.Path.{_≡_, refl, ap, ap₂, _∙_}
 use mathlib.Core.List.{List, [], _∷_, _++_}
-use Prim.Native.Nat.{ℕ, zero, suc, _+_, _*_, _/_, _%_, _^_, _<_}
+use Prim.Native.Nat.{ℕ, zero, suc, _*_, _/_, _%_, _^_, _<_}
 use native.Mathlib.Omega.{arith}
 use lib.Dec.{T}
 use lib.Bits.{bitXor, xor-shr, xor-mod}
 use lib.ListN.{replicate}
-use Rattle.bch.specs.Poly.{digitsOf, divisionStep}
+use Rattle.ground.specs.Digits.{digitsOf}
+use Rattle.ground.proofs.Tests.{below}
+use Rattle.ground.proofs.Bits.{zeros-bits}
+use Rattle.ground.proofs.Xor.{odd}
+use Rattle.bch.specs.Poly.{divisionStep}
 use Rattle.bch.specs.Code.{turn, remainderOf, parity}
 use Rattle.bch.specs.Search.{joined, folded}
-use Rattle.bch.proofs.Xor.{odd, xor-odd, xor-swap, xor-shift}
-use Rattle.bch.proofs.Computed.{all}
+use Rattle.bch.proofs.Xor.{xor-odd, xor-swap, xor-shift}
 use Rattle.bch.proofs.Linear.{Sums, sums-after, agree, linear-below}
-use Rattle.bch.proofs.Digits.{zeros-bits}
 use Rattle.bch.proofs.Turns.{turn-lt, turn-xor, rem-xor}
 
 joined-xor : (js : List ℕ) (l m h k : ℕ) → joined (bitXor l m) js (bitXor h k) ≡ bitXor (joined l js h) (joined m js k)
@@ -82,7 +84,7 @@ shifted-xor (suc n) r s a b hr hs =
 abbrev byDivision : ℕ → ℕ
 byDivision v = parity (digitsOf 53 v)
 
-computed : T (all (agree byFolds byDivision) 53)
+computed : T (below 53 (agree byFolds byDivision))
 unfolding divisionStep
 computed = tt
 

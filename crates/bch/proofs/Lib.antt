@@ -1,13 +1,17 @@
 pub mod Xor
-pub mod Computed
 pub mod Linear
-pub mod Digits
 pub mod Division
 pub mod Remainder
+pub mod Additive
+pub mod Horner
 pub mod Field
+pub mod Steps
 pub mod Turns
 pub mod Locator
 pub mod Syndromes
+pub mod Told
+pub mod Wrong
+pub mod Roots
 pub mod Bound
 pub mod Distance
 pub mod Encoding
@@ -15,7 +19,6 @@ pub mod Packing
 pub mod Folding
 pub mod Search
 pub mod Mending
-pub mod Checking
 pub mod Writing
 pub mod Answering
 pub mod Determined

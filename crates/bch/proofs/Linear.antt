@@ -1,7 +1,7 @@
 -- Two maps that take sums to sums and agree at the powers of two below 2^n agree below 2^n.
 -- Assumes nothing.
 use mathlib.Core.Path.{_≡_, sym, ap, ap₂, _∙_, subst}
-use Prim.Native.Nat.{ℕ, zero, suc, _-_, _*_, _/_, _%_, _^_, _<_}
+use Prim.Native.Nat.{ℕ, zero, suc, _*_, _/_, _%_, _^_, _<_}
 use native.Mathlib.Nat.{mod-lt, pow-suc, div-add-mod', div-lt-iff-lt-mul, div-mul-le-self, mod-le, mul-comm}
 use native.Mathlib.Omega.{arith}
 use lib.Bits.{bitXor, xor-self, xor-shifted}
@@ -9,7 +9,7 @@ use lib.Pow.{pow-pos}
 use lib.Dec.{T, eqb, eqb→eq}
 use mathlib.Core.Bool.{Bool}
 use Rattle.ground.proofs.Xor.{bit-cases}
-use Rattle.bch.proofs.Computed.{all, all-at}
+use Rattle.ground.proofs.Tests.{below, below-at}
 
 abbrev pub Sums : (ℕ → ℕ) → Type 0
 Sums f = (a b : ℕ) → f (bitXor a b) ≡ bitXor (f a) (f b)
@@ -52,11 +52,11 @@ linear-by (suc n) f g hf hg h v l =
 abbrev pub agree : (ℕ → ℕ) → (ℕ → ℕ) → ℕ → Bool
 agree f g k = eqb (f (2 ^ k)) (g (2 ^ k))
 
-pub linear-below : (n : ℕ) (f g : ℕ → ℕ) → SumsBelow n f → SumsBelow n g → T (all (agree f g) n) → (v : ℕ) → v < 2 ^ n → f v ≡ g v
-linear-below n f g hf hg t = linear-by n f g hf hg (λ k h. eqb→eq (f (2 ^ k)) (g (2 ^ k)) (all-at (agree f g) n t k h))
+pub linear-below : (n : ℕ) (f g : ℕ → ℕ) → SumsBelow n f → SumsBelow n g → T (below n (agree f g)) → (v : ℕ) → v < 2 ^ n → f v ≡ g v
+linear-below n f g hf hg t = linear-by n f g hf hg (λ k h. eqb→eq (f (2 ^ k)) (g (2 ^ k)) (below-at n (agree f g) t k h))
 
 pub linear-from : (n : ℕ) (f g : ℕ → ℕ) → Sums f → Sums g → ((k : ℕ) → k < n → f (2 ^ k) ≡ g (2 ^ k)) → (v : ℕ) → v < 2 ^ n → f v ≡ g v
 linear-from n f g hf hg = linear-by n f g (λ a b x y. hf a b) (λ a b x y. hg a b)
 
-pub linear : (n : ℕ) (f g : ℕ → ℕ) → Sums f → Sums g → T (all (agree f g) n) → (v : ℕ) → v < 2 ^ n → f v ≡ g v
+pub linear : (n : ℕ) (f g : ℕ → ℕ) → Sums f → Sums g → T (below n (agree f g)) → (v : ℕ) → v < 2 ^ n → f v ≡ g v
 linear n f g hf hg = linear-below n f g (λ a b x y. hf a b) (λ a b x y. hg a b)

@@ -6,12 +6,13 @@ use Prim.Native.Nat.{ℕ, zero, suc, _+_, _-_, _^_, _<_}
 use native.Mathlib.Omega.{arith}
 use lib.Bits.{bitXor, xor-self}
 use lib.Dec.{T, eqb}
-use Rattle.ground.proofs.Xor.{xor-again}
+use Rattle.ground.proofs.Xor.{xor-again, xor-assoc}
+use Rattle.ground.proofs.Tests.{below, below-at}
 use Rattle.bch.specs.Poly.{divisionStep}
 use Rattle.bch.specs.Field.{timesX, mul}
-use Rattle.bch.proofs.Xor.{xor-assoc, xor-swap, xor-front, xor-middle, xor-zero-eq}
-use Rattle.bch.proofs.Computed.{all, all-at}
-use Rattle.bch.proofs.Field.{timesX-lt, timesX-zero, mul-lt, mul-xor, xor-mul, timesX-mul, one-mul, mul-comm, mul-assoc, cancel}
+use Rattle.bch.proofs.Xor.{xor-swap, xor-front, xor-middle, xor-zero-eq}
+use Rattle.bch.proofs.Field.{mul-lt, mul-xor, xor-mul, timesX-mul, one-mul, mul-comm, mul-assoc, cancel}
+use Rattle.bch.proofs.Additive.{timesX-lt, timesX-zero}
 
 -- ---- squares, cubes, the locator
 
@@ -106,12 +107,12 @@ timesX-inj a b ha hb e =
 abbrev order-at : ℕ → Bool
 order-at n = not (eqb (alpha (suc n)) 1)
 
-order-computed : T (all order-at 66)
+order-computed : T (below 66 order-at)
 unfolding divisionStep timesX alpha
 order-computed = tt
 
 order : (n : ℕ) → n < 66 → alpha (suc n) ≡ 1 → ⊥
-order n h e = subst (λ (x : ℕ). T (not (eqb x 1))) e (all-at order-at 66 order-computed n h)
+order n h e = subst (λ (x : ℕ). T (not (eqb x 1))) e (below-at 66 order-at order-computed n h)
 
 alpha-apart : (m n : ℕ) → n < 66 → alpha (m + suc n) ≡ alpha m → ⊥
 unfolding alpha

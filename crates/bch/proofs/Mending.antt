@@ -14,7 +14,7 @@ use lib.ListN.{length, take, set, getD, length-set}
 use lib.Seq.{take-set-lt, take-set-le, set-out, getD-take}
 use borrow.Author.Tests.{eq-eqb, ne-eqb}
 use Rattle.ground.specs.Answer.{pick}
-use Rattle.bch.specs.Poly.{Bits}
+use Rattle.ground.specs.Bits.{Bits}
 use Rattle.bch.specs.Code.{remainderOf, Codeword, places}
 use Rattle.bch.specs.Promise.{Lone}
 use Rattle.bch.specs.Inner.{flip, mended, Changes}

@@ -30,11 +30,12 @@ use borrow.Author.Tests.{eqb-true, eqb-false, eq-eqb}
 use Rattle.ground.specs.Refusal.{ACCEPTED, LENGTH, NOT-A-BIT, OUTPUT-SHORT}
 use Rattle.ground.specs.Answer.{pick, counted, kept, written}
 use Rattle.ground.specs.declared.Counted.{Counted}
-use Rattle.bch.specs.Poly.{Bits}
+use Rattle.ground.specs.Bits.{Bits, areBits}
+use Rattle.ground.proofs.Bits.{bits-of, are-bits}
+use Rattle.ground.proofs.Tests.{both-true}
 use Rattle.bch.specs.Code.{remainderOf, Codeword, places, distance}
-use Rattle.bch.specs.Promise.{areBits, Lone, Answers, Decodes}
+use Rattle.bch.specs.Promise.{Lone, Answers, Decodes}
 use Rattle.bch.specs.Near.{within, isCodeword, Near, found, none, firstCodeword, nearOf, nearNo, informationIn, decodeAnswer, decodeLeaves}
-use Rattle.bch.proofs.Checking.{bits-of, are-bits}
 use Rattle.bch.proofs.Distance.{nothing, unique}
 use Rattle.bch.proofs.Mending.{places-self}
 use Rattle.bch.proofs.Determined.{decode-determined}
@@ -100,15 +101,11 @@ near-within (suc k) j (b ∷ w) (x ∷ c) hc hw l h =
 
 -- ---- the test of a codeword
 
-both : (s t : Bool) → s && t ≡ true → (s ≡ true) × (t ≡ true)
-both true t e = (refl, e)
-both false t e = let z : _≡_ {A = ℕ} 0 1 = cc in absurd (omega arith)
-
 codeword-of : (w : List ℕ) → isCodeword w ≡ true → Codeword w
 unfolding isCodeword
 codeword-of w e =
-    let s = both (eqb (length w) 67) (areBits w && eqb (remainderOf 0 w) 0) e in
-    let t = both (areBits w) (eqb (remainderOf 0 w) 0) (s .1) in
+    let s = both-true (eqb (length w) 67) (areBits w && eqb (remainderOf 0 w) 0) e in
+    let t = both-true (areBits w) (eqb (remainderOf 0 w) 0) (s .1) in
     record { size = eqb-true (length w) 67 (s .0); bits = bits-of w (t .0); divided = eqb-true (remainderOf 0 w) 0 (t .1) }
 
 is-codeword : (w : List ℕ) → Codeword w → isCodeword w ≡ true

@@ -6,9 +6,11 @@ use Prim.Native.Nat.{ℕ, _^_, _<_}
 use native.Mathlib.Omega.{arith}
 use lib.Bits.{bitXor}
 use lib.ListN.{length, replicate, take, drop, length-drop, take-append-drop}
-use Rattle.bch.specs.Poly.{Bits, digitsOf, valueOf}
+use Rattle.ground.specs.Bits.{Bits}
+use Rattle.ground.specs.Digits.{digitsOf, valueOf}
+use Rattle.ground.proofs.Bits.{bits-take, bits-drop}
+use Rattle.ground.proofs.Digits.{number-below, digits-number}
 use Rattle.bch.specs.Code.{remainderOf, parity}
-use Rattle.bch.proofs.Digits.{bits-take, bits-drop, number-below, digits-number}
 use Rattle.bch.proofs.Turns.{rem-lt, rem-xor, rem-append, small-rem}
 
 -- the remainder of 67 bits: the last 14, plus the parity of the first 53

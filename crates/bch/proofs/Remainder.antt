@@ -10,11 +10,13 @@ use lib.Arith.{digits-div, digits-mod, lt-one}
 use lib.Pow.{pow-pos, pow-mono}
 use lib.Bits.{bitXor, xor-self, xor-zero-r, xor-lt}
 use lib.ListN.{length}
-use Rattle.ground.proofs.Xor.{bit-cases}
-use Rattle.bch.specs.Poly.{Bits, digitsOf, valueOf, productOf, divisionStep, remainderBy}
+use Rattle.ground.specs.Bits.{Bits}
+use Rattle.ground.specs.Digits.{digitsOf, valueOf}
+use Rattle.ground.proofs.Xor.{bit-cases, odd, xor-half}
+use Rattle.ground.proofs.Digits.{number-below, small-digits, digits-bits}
+use Rattle.bch.specs.Poly.{productOf, divisionStep, remainderBy}
 use Rattle.bch.specs.Field.{FIELD, timesX, horner, mul}
-use Rattle.bch.proofs.Xor.{odd, xor-half, xor-odd}
-use Rattle.bch.proofs.Digits.{number-below, small-digits, digits-bits}
+use Rattle.bch.proofs.Xor.{xor-odd}
 use Rattle.bch.proofs.Division.{step-lt, step-xor}
 
 whole : (v : ℕ) → v / 2 * 2 + v % 2 ≡ v

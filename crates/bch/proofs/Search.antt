@@ -9,9 +9,10 @@ use lib.Bits.{bitXor}
 use lib.ListN.{length}
 use Rattle.bch.specs.Field.{timesX, mul}
 use Rattle.bch.specs.Search.{timesX2, timesX4, steps, valueAt, Syndromes, Passed, NextRoot, added, Rising}
-use Rattle.bch.proofs.Field.{Additive, x-additive, x2-additive, mul-lt, one-mul, mul-comm}
+use Rattle.bch.proofs.Field.{mul-lt, one-mul, mul-comm}
 use Rattle.bch.proofs.Locator.{sq, loc, alpha, at, next-first, next-second}
-use Rattle.bch.proofs.Syndromes.{one-root, two-roots, no-pair}
+use Rattle.bch.proofs.Additive.{Additive, x-additive, x2-additive}
+use Rattle.bch.proofs.Roots.{one-root, two-roots, no-pair}
 
 -- ---- steps
 

@@ -7,10 +7,12 @@ use native.Mathlib.Omega.{arith}
 use lib.Pow.{pow-mono}
 use lib.Bits.{bitXor, xor-zero-r}
 use lib.ListN.{length, replicate}
-use Rattle.bch.specs.Poly.{Bits, valueOf, divisionStep}
+use Rattle.ground.specs.Bits.{Bits}
+use Rattle.ground.specs.Digits.{valueOf}
+use Rattle.ground.proofs.Digits.{grown}
+use Rattle.bch.specs.Poly.{divisionStep}
 use Rattle.bch.specs.Code.{GENERATOR, turn, remainderOf}
 use Rattle.bch.specs.Search.{power}
-use Rattle.bch.proofs.Digits.{grown}
 use Rattle.bch.proofs.Division.{step-lt, step-xor, remainder-lt, remainder-xor}
 
 pub turn-lt : (r b : ℕ) → r < 2 ^ 14 → b < 2 → turn r b < 2 ^ 14

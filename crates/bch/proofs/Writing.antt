@@ -9,12 +9,13 @@ use native.Mathlib.Omega.{arith}
 use lib.ListN.{length, take, drop, set, getD, length-set, length-append, length-drop, drop-of-length-le}
 use lib.Seq.{take-at, drop-at, take-all, take-suc, take-suc-set, length-take-le}
 use borrow.Rule.Slice.PartMut.{putMid}
-use Rattle.bch.specs.Poly.{Bits, digitsOf}
+use Rattle.ground.specs.Bits.{Bits}
+use Rattle.ground.specs.Digits.{digitsOf}
+use Rattle.ground.proofs.Bits.{bits-take}
 use Rattle.bch.specs.Code.{parity, encode}
 use Rattle.bch.specs.Inner.{flip, mended}
 use Rattle.bch.specs.declared.inner.Found.{Found}
 use Rattle.bch.specs.declared.inner.Found.the-variants.{One, Two}
-use Rattle.bch.proofs.Digits.{bits-take}
 use Rattle.bch.proofs.Mending.{flip-length, flip-bits, take-flip}
 
 -- ---- copying

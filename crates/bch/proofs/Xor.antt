@@ -1,50 +1,19 @@
--- XOR of numbers: it groups, it cancels, and halves, low digits, shifts and products by a digit pass through it.
--- Assumes nothing.
+-- XOR of numbers: it cancels, and low digits, shifts and products by a digit pass through it. Assumes nothing.
 use mathlib.Core.Path.{_≡_, refl, sym, ap, ap₂, _∙_}
-use Prim.Native.Nat.{ℕ, _+_, _*_, _/_, _%_, _^_, _<_}
+use Prim.Native.Nat.{ℕ, _+_, _*_, _%_, _^_, _<_}
 use native.Mathlib.Nat.{add-zero}
 use native.Mathlib.Omega.{arith}
-use lib.Arith.{bin-ind, digits-mod}
 use lib.Pow.{pow-pos}
-use lib.Bits.{bitXor, differ, xor-step, xor-shr, xor-block, xor-comm, xor-self, xor-zero-r}
-use Rattle.ground.proofs.Xor.{bit-cases, xor-again}
-
-differ-lt : (x y : ℕ) → x < 2 → y < 2 → differ x y < 2
-differ-lt x y hx hy = bit-cases (λ (a : ℕ). differ a y < 2) hy (bit-cases (λ (b : ℕ). differ 1 b < 2) (omega arith) (omega arith) y hy) x hx
-
-differ-assoc : (x y z : ℕ) → x < 2 → y < 2 → z < 2 → differ (differ x y) z ≡ differ x (differ y z)
-differ-assoc x y z hx hy hz =
-    bit-cases (λ (a : ℕ). differ (differ a y) z ≡ differ a (differ y z)) refl
-    (bit-cases (λ (b : ℕ). differ (differ 1 b) z ≡ differ 1 (differ b z)) refl
-    (bit-cases (λ (c : ℕ). differ (differ 1 1) c ≡ differ 1 (differ 1 c)) refl refl z hz) y hy) x hx
+use lib.Bits.{bitXor, differ, xor-block, xor-comm, xor-self, xor-zero-r}
+use Rattle.ground.proofs.Xor.{bit-cases, odd, differ-odd, xor-assoc, xor-again}
 
 differ-is : (x y : ℕ) → x < 2 → y < 2 → differ x y ≡ bitXor x y
 differ-is x y hx hy =
     bit-cases (λ (p : ℕ). differ p y ≡ bitXor p y) refl
     (bit-cases (λ (q : ℕ). differ 1 q ≡ bitXor 1 q) refl refl y hy) x hx
 
-pub odd : (a : ℕ) → a % 2 < 2
-odd a = omega arith
-
-pub xor-half : (a b : ℕ) → bitXor a b / 2 ≡ bitXor (a / 2) (b / 2)
-xor-half a b = xor-shr a b 1
-
-differ-odd : (a b : ℕ) → bitXor a b % 2 ≡ differ (a % 2) (b % 2)
-differ-odd a b =
-    ap (λ (x : ℕ). x % 2) (xor-step a b) ∙ digits-mod (bitXor (a / 2) (b / 2)) (differ-lt (a % 2) (b % 2) (odd a) (odd b))
-
 pub xor-odd : (a b : ℕ) → bitXor a b % 2 ≡ bitXor (a % 2) (b % 2)
 xor-odd a b = differ-odd a b ∙ differ-is (a % 2) (b % 2) (odd a) (odd b)
-
-pub xor-assoc : (a b c : ℕ) → bitXor (bitXor a b) c ≡ bitXor a (bitXor b c)
-xor-assoc =
-    bin-ind (λ (a : ℕ). (b c : ℕ) → bitXor (bitXor a b) c ≡ bitXor a (bitXor b c)) (λ b c. refl)
-    (λ a ih b c.
-    xor-step (bitXor a b) c
-    ∙ ap₂ (λ (x y : ℕ). bitXor x (c / 2) * 2 + differ y (c % 2)) (xor-half a b) (differ-odd a b)
-    ∙ ap₂ (λ (x y : ℕ). x * 2 + y) (ih (b / 2) (c / 2)) (differ-assoc (a % 2) (b % 2) (c % 2) (odd a) (odd b) (odd c))
-    ∙ ap₂ (λ (x y : ℕ). bitXor (a / 2) x * 2 + differ (a % 2) y) (sym (xor-half b c)) (sym (differ-odd b c))
-    ∙ sym (xor-step a (bitXor b c)))
 
 -- (a + b) + (c + d) = (a + c) + (b + d)
 pub xor-swap : (a b c d : ℕ) → bitXor (bitXor a b) (bitXor c d) ≡ bitXor (bitXor a c) (bitXor b d)

@@ -5,7 +5,9 @@ use Prim.Native.Nat.{ℕ, suc}
 use lib.Dec.{eqb}
 use lib.ListN.{length, replicate}
 use Rattle.ground.specs.Answer.{pick}
-use Rattle.bch.specs.Poly.{Bits, digitsOf, divisionStep, remainderBy}
+use Rattle.ground.specs.Bits.{Bits}
+use Rattle.ground.specs.Digits.{digitsOf}
+use Rattle.bch.specs.Poly.{divisionStep, remainderBy}
 
 -- h(x) = x^14 + x^9 + x^8 + x^6 + x^5 + x^4 + x^2 + x + 1
 abbrev pub GENERATOR : ℕ

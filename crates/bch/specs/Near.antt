@@ -7,8 +7,9 @@ use lib.ListN.{length, take}
 use Rattle.ground.specs.Refusal.{ACCEPTED, NO-WORD}
 use Rattle.ground.specs.Answer.{pick, counted, kept, written}
 use Rattle.ground.specs.declared.Counted.{Counted}
+use Rattle.ground.specs.Bits.{areBits}
 use Rattle.bch.specs.Code.{remainderOf}
-use Rattle.bch.specs.Promise.{areBits, lentNo}
+use Rattle.bch.specs.Promise.{lentNo}
 
 -- the bits w, and every list that differs from them in at most k places
 unfoldable pub within : ℕ → List ℕ → List (List ℕ)

@@ -1,23 +1,8 @@
 -- Document 01, 'TPS'; EN 300 744, 4.6.2.11: polynomials over GF(2), of which the code and the field are made, and their division.
 -- A polynomial is a number, whose binary digit k is the coefficient of x^k, or a list of bits, highest degree first. The sum is XOR.
 use mathlib.Core.List.{List, [], _∷_}
-use Prim.Native.Nat.{ℕ, zero, suc, _+_, _*_, _/_, _%_, _^_, _<_}
+use Prim.Native.Nat.{ℕ, _+_, _*_, _/_, _^_}
 use lib.Bits.{bitXor}
-
--- each element is 0 or 1
-abbrev pub Bits : List ℕ → Type 0
-Bits [] = Unit {0}
-Bits (b ∷ bs) = (b < 2) × Bits bs
-
--- the n low binary digits of a number, highest first
-abbrev pub digitsOf : ℕ → ℕ → List ℕ
-digitsOf zero v = []
-digitsOf (suc n) v = v / 2 ^ n % 2 ∷ digitsOf n v
-
--- the number of a list of bits, highest first, behind the digits of s
-abbrev pub valueOf : ℕ → List ℕ → ℕ
-valueOf s [] = s
-valueOf s (b ∷ bs) = valueOf (s * 2 + b) bs
 
 -- the product of g and the polynomial of a list of bits, behind a product p: shifted, and added without carry
 abbrev pub productOf : ℕ → ℕ → List ℕ → ℕ

@@ -1,20 +1,15 @@
 -- Document 01, 'TPS' and 'Refusal numbers': what the encoder and the decoder answer, and what they leave in the lent output.
 use mathlib.Core.Path.{_≡_}
-use mathlib.Core.Bool.{Bool, true, _&&_}
-use mathlib.Core.List.{List, [], _∷_}
+use mathlib.Core.List.{List}
 use mathlib.Core.Logic.{_⊎_}
 use Prim.Native.Nat.{ℕ, zero, suc, _≤_}
 use lib.Dec.{eqb, ltb}
 use lib.ListN.{length, take}
 use Rattle.ground.specs.Refusal.{ACCEPTED, LENGTH, NOT-A-BIT, OUTPUT-SHORT, NO-WORD}
 use Rattle.ground.specs.Answer.{pick, counted, kept, written}
+use Rattle.ground.specs.Bits.{areBits}
 use Rattle.ground.specs.declared.Counted.{Counted}
 use Rattle.bch.specs.Code.{Codeword, distance, encode}
-
--- each item of a bit slice is at most 1, as a test
-abbrev pub areBits : List ℕ → Bool
-areBits [] = true
-areBits (b ∷ bs) = ltb b 2 && areBits bs
 
 -- the number of a call that takes `size` bits and writes `needs`: LENGTH, NOT A BIT, OUTPUT SHORT, in this order
 abbrev pub lentNo : ℕ → ℕ → List ℕ → List ℕ → ℕ

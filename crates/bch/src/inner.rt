@@ -3,10 +3,10 @@ ghost use mathlib.Core.Path.{_≡_};
 ghost use mathlib.Core.List.{[], _∷_};
 ghost use Prim.Native.Nat.{ℕ, _^_, _<_, _≤_};
 ghost use lib.ListN.{length, take};
-ghost use Rattle.bch.specs.Poly.{Bits, digitsOf, valueOf};
+ghost use Rattle.ground.specs.Bits.{Bits};
+ghost use Rattle.ground.specs.Digits.{digitsOf, valueOf};
 ghost use Rattle.bch.specs.Code.{remainderOf, parity, encode};
 ghost use Rattle.bch.specs.Field.{timesX, horner, mul};
-ghost use Rattle.bch.specs.Promise.{areBits};
 ghost use Rattle.bch.specs.Inner.{flip, mended, Changes};
 ghost use Rattle.bch.specs.Search.{folded, timesX2, timesX3, timesX4, syn1, syn3, Syndromes, Passed, NextRoot, Locates};
 
@@ -16,21 +16,6 @@ pub enum Found {
     One(usize),
     Two(usize, usize),
     NoWord,
-}
-
-// ---- bits
-
-// Whether each item of a bit slice is 0 or 1.
-pub fn all_bits(bits: &[u8]) -> bool
-    ensures { λ r. ⌜ r ≡ areBits (now (bits .entry)) ⌝ }
-{
-    let mut seen: u8 = 0;
-    let mut i: usize = 0;
-    while i < bits.len() {
-        seen = seen | bits[i];
-        i += 1;
-    }
-    seen < 2
 }
 
 // ---- remainders by the generator

@@ -14,7 +14,7 @@ pub fn tps_bch_encode(info: &[u8], out: &mut [u8]) -> Counted
     if info.len() != 53 {
         return Counted::Refused(ground::LENGTH);
     }
-    if !inner::all_bits(info) {
+    if !ground::inner::all_bits(info) {
         return Counted::Refused(ground::NOT_A_BIT);
     }
     if out.len() < 67 {
@@ -31,7 +31,7 @@ pub fn tps_bch_decode(code: &[u8], out: &mut [u8]) -> Counted
     if code.len() != 67 {
         return Counted::Refused(ground::LENGTH);
     }
-    if !inner::all_bits(code) {
+    if !ground::inner::all_bits(code) {
         return Counted::Refused(ground::NOT_A_BIT);
     }
     if out.len() < 53 {

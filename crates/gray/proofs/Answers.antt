@@ -13,6 +13,8 @@ use Rattle.ground.specs.Answer.{counted, kept, written}
 use Rattle.ground.specs.declared.Cell.{Cell}
 use Rattle.ground.specs.declared.Counted.{Counted}
 use Rattle.ground.specs.declared.Counted.the-variants as Counted
+use Rattle.ground.specs.Bits.{areBits}
+use Rattle.ground.specs.Digits.{valueOf, digitsOf}
 use Rattle.gray.specs.declared.Soft.the-variants as Soft
 use Rattle.gray.specs.declared.Mapped.{Mapped}
 use Rattle.gray.specs.declared.Mapped.the-variants.{Point, Refused}
@@ -20,10 +22,10 @@ use Rattle.gray.specs.declared.ConstellationOrder.{ConstellationOrder}
 use Rattle.gray.specs.declared.ConstellationOrder.the-variants.{Qpsk, Qam16, Qam64}
 use Rattle.gray.specs.Levels.{orderOf, levels, axisBits, at}
 use Rattle.gray.specs.Mapping as Mapping
-use Rattle.gray.specs.Mapping.{number, everyOther, index, areBits, coordinatesOf, mapped, mappedOf}
+use Rattle.gray.specs.Mapping.{everyOther, index, coordinatesOf, mapped, mappedOf}
 use Rattle.gray.specs.Soft as Softs
 use Rattle.gray.specs.Inner.{placed, roomNo}
-use Rattle.gray.specs.Hard.{distances, First, digits, weave, bitsOf, Wrote, demapNo, Demapped}
+use Rattle.gray.specs.Hard.{distances, First, weave, bitsOf, Wrote, demapNo, Demapped}
 use Rattle.gray.specs.Soft.{soft, softAt, softNo, softOf}
 
 pub axis-range : (o : ConstellationOrder) → (1 ≤ axisBits o) × (axisBits o ≤ 3)
@@ -55,8 +57,8 @@ pub mapped-says-coordinates : (x y : Float) → coordinatesOf (mapped ACCEPTED x
 mapped-says-coordinates x y = refl
 
 -- the coordinate at the index that the bits of an axis write
-pub placed-on : (o : ConstellationOrder) (bits : List ℕ) (a k i : ℕ) (x : Float) → k ≡ axisBits o → x ≡ at o i → i ≡ number 0 (everyOther k a bits) → x ≡ at o (index o a bits)
-placed-on o bits a k i x e p q = p ∙ ap (at o) (q ∙ ap (λ (n : ℕ). number 0 (everyOther n a bits)) e)
+pub placed-on : (o : ConstellationOrder) (bits : List ℕ) (a k i : ℕ) (x : Float) → k ≡ axisBits o → x ≡ at o i → i ≡ valueOf 0 (everyOther k a bits) → x ≡ at o (index o a bits)
+placed-on o bits a k i x e p q = p ∙ ap (at o) (q ∙ ap (λ (n : ℕ). valueOf 0 (everyOther n a bits)) e)
 
 pub placed-at : (o : ConstellationOrder) (bits : List ℕ) (a b : Float) → areBits bits ≡ true → a ≡ at o (index o 0 bits) → b ≡ at o (index o 1 bits) → Point a b ≡ placed o bits
 placed-at o bits a b e p q = rw (e, p, q)
@@ -86,11 +88,11 @@ no-room o cell old k e h =
     (simp t, simp t refl)
 
 pub room : (o : ConstellationOrder) (cell : Cell) (old new : List ℕ) (k i q : ℕ) → k ≡ axisBits o → 2 * k ≤ length old → First (distances o (cell .re)) i
-    → First (distances o (cell .im)) q → new ≡ weave (digits k i) (digits k q) ++ drop (2 * k) old → Room o cell old (Counted.Count (2 * k)) new
+    → First (distances o (cell .im)) q → new ≡ weave (digitsOf k i) (digitsOf k q) ++ drop (2 * k) old → Room o cell old (Counted.Count (2 * k)) new
 room o cell old new k i q e h fi fq w =
     let t = le-leb (2 * axisBits o) (length old) (subst (λ (n : ℕ). 2 * n ≤ length old) e h) in
     let out : new ≡ written (bitsOf o i q) old =
-    w ∙ ap (λ (n : ℕ). weave (digits n i) (digits n q) ++ drop (2 * n) old) e ∙ ap (λ (n : ℕ). bitsOf o i q ++ drop n old) (sym (bits-length o i q)) in
+    w ∙ ap (λ (n : ℕ). weave (digitsOf n i) (digitsOf n q) ++ drop (2 * n) old) e ∙ ap (λ (n : ℕ). bitsOf o i q ++ drop n old) (sym (bits-length o i q)) in
     (simp (t, e), simp t (record { i = i; q = q; i-first = fi; q-first = fq; output = out }))
 
 abbrev pub Done : Cell → ℕ → List ℕ → Counted → List ℕ → Type 0

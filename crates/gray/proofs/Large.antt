@@ -13,16 +13,17 @@ use lib.Ieee.{Float, nan, inf, fin, Format, binary32, low, up, down, lt, eq, le,
 use lib.Ieee.Fits.{down-pos, and-l, and-r}
 use lib.Ieee.Order.{round-mono}
 use borrow.Author.Tests.{le-ltb}
+use Rattle.ground.proofs.Tests.{below, below-at}
 use Rattle.gray.specs.declared.ConstellationOrder.{ConstellationOrder}
 use Rattle.gray.specs.declared.ConstellationOrder.the-variants.{Qpsk, Qam16, Qam64}
 use Rattle.gray.specs.Levels.{axisBits, levels, at}
 use Rattle.gray.specs.Hard.{abs, distance, distances, First}
 use Rattle.gray.specs.Soft.{square, soft}
 use Rattle.gray.proofs.Magnitudes.{same-sign, abs-round}
-use Rattle.gray.proofs.Tests.{below, below-sound}
 use Rattle.gray.proofs.Edges.{equal-distances-first}
 use Rattle.gray.proofs.Softs.{overflow-soft}
-use Rattle.gray.proofs.Rounding.{few-digits, grid-above, grid-below, rounds-to}
+use Rattle.gray.proofs.Rounding.{few-digits, rounds-to}
+use Rattle.gray.proofs.Grid.{grid-above, grid-below}
 
 -- finite, and of magnitude 2 ^ n or more
 abbrev pub Large : ℕ → Float → Type 0
@@ -49,13 +50,13 @@ near (inf s) = false
 near (fin t n d) = ltb 0 (n * up d) && ltb (n * up d) (2 * down d)
 
 near-tested : (o : ConstellationOrder) → T (below (length (levels o)) (λ j. near (at o j)))
-unfolding below mul ofInt ofBits
+unfolding mul ofInt ofBits
 near-tested Qpsk = tt
 near-tested Qam16 = tt
 near-tested Qam64 = tt
 
 near-at : (o : ConstellationOrder) (j : ℕ) → j < length (levels o) → T (near (at o j))
-near-at o = below-sound (length (levels o)) (λ j. near (at o j)) (near-tested o)
+near-at o = below-at (length (levels o)) (λ j. near (at o j)) (near-tested o)
 
 -- ---- the distance of a large coordinate is its magnitude
 module _ (m k N D : ℕ) (f : T (fits binary32 (fin false m (pos k)))) (big : 2 ^ 26 ≤ m * 2 ^ k) (some : 0 < D) (p : 0 < N) (h : N < 2 * D) where

@@ -1,8 +1,13 @@
 pub mod Answers
-pub mod Bits
+pub mod Away
+pub mod Closest
 pub mod Determined
 pub mod Edges
+pub mod Exact
+pub mod Grid
+pub mod Indices
 pub mod Large
+pub mod Leads
 pub mod Least
 pub mod Magnitudes
 pub mod Nearest

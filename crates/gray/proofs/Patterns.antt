@@ -14,7 +14,7 @@ use lib.Ieee.Exact.{HasValue, odd-sign}
 use lib.Ieee.Scale.{finite}
 use borrow.Author.Tests.{lt-ltb, le-ltb, lt-leb, le-leb}
 use Rattle.gray.specs.Scales.{units}
-use Rattle.gray.proofs.Nearest.{here-or-on}
+use Rattle.gray.proofs.Tests.{here-or-on}
 
 -- ---- the fields of a pattern
 ofBits-is : (b : ℕ) → ofBits binary32 b ≡ ofFields binary32 (leb 2147483648 b) (b % 2147483648 / 8388608) (b % 8388608)

@@ -1,41 +1,16 @@
--- Tests that antt computes over every number below a bound, or over every list of so many bits, and that what passes holds at each. Assumes nothing.
-use Prim.Native.Nat.{ℕ, zero, suc, _<_}
-use native.Mathlib.Nat.{eq-or-lt-of-le, not-suc-le-zero, le-of-suc-le-suc, suc-inj}
+-- A test that antt computes over every list of so many bits, carried to each of them; and what a test told or picked. Assumes nothing.
+use Prim.Native.Nat.{ℕ, zero, suc, _≤_, _<_}
+use native.Mathlib.Nat.{suc-inj}
 use native.Mathlib.Omega.{arith}
-use mathlib.Core.Path.{_≡_, sym, subst}
-use mathlib.Core.Logic.{inl, inr}
-use mathlib.Core.Bool.{Bool, true, false}
+use mathlib.Core.Path.{_≡_, sym, ap}
+use mathlib.Core.Logic.{_⊎_, inl, inr}
+use mathlib.Core.Bool.{Bool, true, false, not, cond}
 use mathlib.Core.List.{List, [], _∷_}
-use lib.Dec.{T, ltb, ltb→lt}
+use lib.Dec.{T, ltb, ltb→lt, nltb→le}
 use lib.ListN.{length}
-use lib.Ieee.Fits.{and-l, and-r}
-use Rattle.gray.specs.Mapping.{areBits}
-
--- `&&` that leaves the second test alone where the first fails
-abbrev pub both : Bool → Bool → Bool
-both true b = b
-both false b = false
-
-pub both-left : (a b : Bool) → T (both a b) → T a
-both-left true b t = tt
-both-left false b t = t
-
-pub both-right : (a b : Bool) → T (both a b) → T b
-both-right true b t = t
-both-right false b t = absurd t
-
-unfoldable pub below : ℕ → (ℕ → Bool) → Bool
-below zero f = true
-below (suc n) f = both (f n) (below n f)
-
-pub below-sound : (n : ℕ) (f : ℕ → Bool) → T (below n f) → (j : ℕ) → j < n → T (f j)
-unfolding below
-below-sound zero f t j h = absurd (not-suc-le-zero h)
-below-sound (suc n) f t j h =
-    elim (eq-or-lt-of-le (le-of-suc-le-suc h)) [
-      | inl e ↦ subst (λ (k : ℕ). T (f k)) (sym e) (both-left (f n) (below n f) t)
-      | inr l ↦ below-sound n f (both-right (f n) (below n f) t) j l
-    ]
+use Rattle.ground.specs.Bits.{Bits}
+use Rattle.ground.proofs.Tests.{both, both-left, both-right}
+use Rattle.ground.proofs.Xor.{bit-cases}
 
 unfoldable pub every : ℕ → (List ℕ → Bool) → Bool
 every zero f = f []
@@ -44,16 +19,28 @@ every (suc n) f = both (every n (λ l. f (0 ∷ l))) (every n (λ l. f (1 ∷ l)
 one-more : (n : ℕ) → suc n ≡ 0 → ⊥
 one-more n e = omega arith
 
-not-bit : (b : ℕ) → T (ltb (suc (suc b)) 2) → ⊥
-not-bit b t = not-suc-le-zero (le-of-suc-le-suc (le-of-suc-le-suc (ltb→lt (suc (suc b)) 2 t)))
-
-pub every-sound : (n : ℕ) (f : List ℕ → Bool) → T (every n f) → (l : List ℕ) → length l ≡ n → T (areBits l) → T (f l)
+pub every-at : (n : ℕ) (f : List ℕ → Bool) → T (every n f) → (l : List ℕ) → length l ≡ n → Bits l → T (f l)
 unfolding every
-every-sound zero f t [] e h = t
-every-sound zero f t (b ∷ r) e h = absurd (one-more (length r) e)
-every-sound (suc n) f t [] e h = absurd (one-more n (sym e))
-every-sound (suc n) f t (zero ∷ r) e h =
-    every-sound n (λ l. f (0 ∷ l)) (both-left (every n (λ l. f (0 ∷ l))) (every n (λ l. f (1 ∷ l))) t) r (suc-inj e) (and-r (ltb 0 2) (areBits r) h)
-every-sound (suc n) f t (suc zero ∷ r) e h =
-    every-sound n (λ l. f (1 ∷ l)) (both-right (every n (λ l. f (0 ∷ l))) (every n (λ l. f (1 ∷ l))) t) r (suc-inj e) (and-r (ltb 1 2) (areBits r) h)
-every-sound (suc n) f t (suc (suc b) ∷ r) e h = absurd (not-bit b (and-l (ltb (suc (suc b)) 2) (areBits r) h))
+every-at zero f t [] e h = t
+every-at zero f t (b ∷ r) e h = absurd (one-more (length r) e)
+every-at (suc n) f t [] e h = absurd (one-more n (sym e))
+every-at (suc n) f t (b ∷ r) e h =
+    let zeros : Bool = every n (λ l. f (0 ∷ l)) in
+    let ones : Bool = every n (λ l. f (1 ∷ l)) in
+    bit-cases (λ (x : ℕ). T (f (x ∷ r)))
+    (every-at n (λ l. f (0 ∷ l)) (both-left zeros ones t) r (suc-inj e) (h .1))
+    (every-at n (λ l. f (1 ∷ l)) (both-right zeros ones t) r (suc-inj e) (h .1)) b (h .0)
+
+pub here-or-on : (b n : ℕ) → (b < n) ⊎ (n ≤ b)
+here-or-on b n = go (ltb b n) (ltb→lt b n) (nltb→le b n)
+  where
+    go : (t : Bool) → (T t → b < n) → (T (not t) → n ≤ b) → (b < n) ⊎ (n ≤ b)
+    go true p q = inl (p tt)
+    go false p q = inr (q tt)
+
+-- what a test picked
+pub picked : {A : Type 0} (t : Bool) (x y : A) → t ≡ true → x ≡ cond t x y
+picked t x y e = sym (ap (λ (b : Bool). cond b x y) e)
+
+pub passed : {A : Type 0} (t : Bool) (x y : A) → t ≡ false → y ≡ cond t x y
+passed t x y e = sym (ap (λ (b : Bool). cond b x y) e)

@@ -6,7 +6,8 @@ use mathlib.Core.Path.{_≡_, refl, sym, ap, _∙_, subst}
 use mathlib.Core.List.{List, [], _∷_, _++_, append-assoc, append-nil}
 use lib.ListN.{length, take, drop, set, length-set, take-append-drop}
 use lib.Seq.{take-suc-set, drop-set-lt, drop-drop}
-use Rattle.gray.specs.Hard.{digits, weave}
+use Rattle.ground.specs.Digits.{digitsOf}
+use Rattle.gray.specs.Hard.{weave}
 
 -- the list after the two stores
 abbrev pub pair : List ℕ → ℕ → ℕ → ℕ → List ℕ
@@ -36,10 +37,10 @@ pub record Written (k i q j : ℕ) (old out : List ℕ) : Type 0 where
   pub upto : j ≤ k
   pub same : length out ≡ length old
   pub rest : drop (2 * j) out ≡ drop (2 * j) old
-  pub whole : take (2 * j) out ++ weave (digits (k - j) i) (digits (k - j) q) ≡ weave (digits k i) (digits k q)
+  pub whole : take (2 * j) out ++ weave (digitsOf (k - j) i) (digitsOf (k - j) q) ≡ weave (digitsOf k i) (digitsOf k q)
 
 pub none-written : (k i q : ℕ) (old : List ℕ) → Written k i q 0 old old
-none-written k i q old = record { upto = omega arith; same = refl; rest = refl; whole = ap (λ (r : ℕ). weave (digits r i) (digits r q)) (less-none k) }
+none-written k i q old = record { upto = omega arith; same = refl; rest = refl; whole = ap (λ (r : ℕ). weave (digitsOf r i) (digitsOf r q)) (less-none k) }
   where
     less-none : (n : ℕ) → n - 0 ≡ n
     less-none n = omega arith
@@ -70,11 +71,11 @@ one-written k i q j old out h l w =
           ap (λ (n : ℕ). drop n (pair out (2 * j) a b)) (two-on j) ∙ pair-drop out (2 * j) a b ∙ drop-more out (2 * j) ∙ ap (drop 2) (w .rest) ∙ sym (drop-more old (2 * j))
           ∙ ap (λ (n : ℕ). drop n old) (sym (two-on j));
       whole =
-          ap (λ (n : ℕ). take n (pair out (2 * j) a b) ++ weave (digits (k - (j + 1)) i) (digits (k - (j + 1)) q)) (two-on j)
-          ∙ ap (λ (n : ℕ). take (suc (2 * j + 1)) (pair out (2 * j) a b) ++ weave (digits n i) (digits n q)) (left k j h)
-          ∙ ap (λ (t : List ℕ). t ++ weave (digits r i) (digits r q)) (pair-take out (2 * j) a b inside)
-          ∙ append-assoc (take (2 * j) out) (a ∷ b ∷ []) (weave (digits r i) (digits r q))
-          ∙ ap (λ (n : ℕ). take (2 * j) out ++ weave (digits n i) (digits n q)) (sym (opened k j h))
+          ap (λ (n : ℕ). take n (pair out (2 * j) a b) ++ weave (digitsOf (k - (j + 1)) i) (digitsOf (k - (j + 1)) q)) (two-on j)
+          ∙ ap (λ (n : ℕ). take (suc (2 * j + 1)) (pair out (2 * j) a b) ++ weave (digitsOf n i) (digitsOf n q)) (left k j h)
+          ∙ ap (λ (t : List ℕ). t ++ weave (digitsOf r i) (digitsOf r q)) (pair-take out (2 * j) a b inside)
+          ∙ append-assoc (take (2 * j) out) (a ∷ b ∷ []) (weave (digitsOf r i) (digitsOf r q))
+          ∙ ap (λ (n : ℕ). take (2 * j) out ++ weave (digitsOf n i) (digitsOf n q)) (sym (opened k j h))
           ∙ w .whole;
     }
   where
@@ -84,11 +85,11 @@ one-written k i q j old out h l w =
         plus : (x : ℕ) → suc (x + 1) ≡ x + 2
         plus x = omega arith
 
-pub all-written : (k i q : ℕ) (old out : List ℕ) → Written k i q k old out → out ≡ weave (digits k i) (digits k q) ++ drop (2 * k) old
+pub all-written : (k i q : ℕ) (old out : List ℕ) → Written k i q k old out → out ≡ weave (digitsOf k i) (digitsOf k q) ++ drop (2 * k) old
 all-written k i q old out w =
     sym (take-append-drop (2 * k) out)
-    ∙ ap (λ (t : List ℕ). t ++ drop (2 * k) out) (sym (append-nil (take (2 * k) out)) ∙ ap (λ (n : ℕ). take (2 * k) out ++ weave (digits n i) (digits n q)) (sym (gone k)) ∙ w .whole)
-    ∙ ap (λ (t : List ℕ). weave (digits k i) (digits k q) ++ t) (w .rest)
+    ∙ ap (λ (t : List ℕ). t ++ drop (2 * k) out) (sym (append-nil (take (2 * k) out)) ∙ ap (λ (n : ℕ). take (2 * k) out ++ weave (digitsOf n i) (digitsOf n q)) (sym (gone k)) ∙ w .whole)
+    ∙ ap (λ (t : List ℕ). weave (digitsOf k i) (digitsOf k q) ++ t) (w .rest)
   where
     gone : (n : ℕ) → n - n ≡ 0
     gone n = omega arith

@@ -1,6 +1,6 @@
 -- Document 01, 'Gray mapping': hard demapping takes the first index with the least f32 distance on each axis, and writes its bits.
 -- Another group size is LENGTH; then an output that is shorter than the group is OUTPUT SHORT.
-use Prim.Native.Nat.{ℕ, zero, suc, _/_, _%_, _^_, _<_}
+use Prim.Native.Nat.{ℕ, _<_}
 use mathlib.Core.Bool.{false, not}
 use mathlib.Core.Path.{_≡_}
 use mathlib.Core.List.{List, [], _∷_, map}
@@ -11,6 +11,7 @@ use lib.ListN.{length, getD}
 use Rattle.ground.specs.declared.Cell.{Cell}
 use Rattle.ground.specs.Answer.{pick, kept, written}
 use Rattle.ground.specs.Refusal.{ACCEPTED, LENGTH, OUTPUT-SHORT}
+use Rattle.ground.specs.Digits.{digitsOf}
 use Rattle.gray.specs.declared.ConstellationOrder.{ConstellationOrder}
 use Rattle.gray.specs.Levels.{isSize, orderOf, axisBits, levels, coordinate}
 
@@ -36,11 +37,6 @@ pub record First (ds : List Float) (i : ℕ) : Type 0 where
   pub least : (j : ℕ) → j < length ds → T (not (lt (entry ds j) (entry ds i)))
   pub first : (j : ℕ) → j < i → T (lt (entry ds i) (entry ds j))
 
--- the k low bits of n, high first
-abbrev pub digits : ℕ → ℕ → List ℕ
-digits zero n = []
-digits (suc k) n = (n / 2 ^ k % 2) ∷ digits k n
-
 -- the items of two lists in turn
 abbrev pub weave : List ℕ → List ℕ → List ℕ
 weave [] s = s
@@ -49,7 +45,7 @@ weave (a ∷ r) (b ∷ s) = a ∷ b ∷ weave r s
 
 -- the bits of an index on I and one on Q
 abbrev pub bitsOf : ConstellationOrder → ℕ → ℕ → List ℕ
-bitsOf o i q = weave (digits (axisBits o) i) (digits (axisBits o) q)
+bitsOf o i q = weave (digitsOf (axisBits o) i) (digitsOf (axisBits o) q)
 
 -- the new output is the old one with the bits of the first least indices at its front
 pub record Wrote (o : ConstellationOrder) (sym : Cell) (old new : List ℕ) : Type 0 where

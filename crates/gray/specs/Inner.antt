@@ -7,11 +7,12 @@ use lib.Dec.{T, leb}
 use lib.Ieee.{Float, binary32, sub, neg, lt}
 use Rattle.ground.specs.Answer.{pick}
 use Rattle.ground.specs.Refusal.{ACCEPTED, NOT-A-BIT, OUTPUT-SHORT}
+use Rattle.ground.specs.Bits.{areBits}
 use Rattle.gray.specs.declared.ConstellationOrder.{ConstellationOrder}
 use Rattle.gray.specs.declared.Mapped.{Mapped}
 use Rattle.gray.specs.declared.Candidate.{Candidate}
 use Rattle.gray.specs.Levels.{axisBits, at}
-use Rattle.gray.specs.Mapping.{index, areBits, mapped}
+use Rattle.gray.specs.Mapping.{index, mapped}
 use Rattle.gray.specs.Hard.{distance}
 
 -- the answer of mapping at a constellation whose group size the bits have

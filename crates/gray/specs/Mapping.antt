@@ -1,21 +1,16 @@
 -- Document 01, 'Gray mapping': even bits, high first, index the I axis, odd bits the Q axis. Any other length than 2, 4 or 6 is LENGTH; then a bit above 1 is NOT A BIT.
-use Prim.Native.Nat.{ℕ, zero, suc, _+_, _*_}
-use mathlib.Core.Bool.{Bool, true, _&&_}
+use Prim.Native.Nat.{ℕ, zero, suc, _+_}
 use mathlib.Core.List.{List, [], _∷_}
-use lib.Dec.{ltb}
 use lib.Ieee.{Float}
 use lib.ListN.{length, getD}
 use Rattle.ground.specs.Answer.{pick}
+use Rattle.ground.specs.Bits.{areBits}
 use Rattle.ground.specs.Refusal.{ACCEPTED, LENGTH, NOT-A-BIT}
+use Rattle.ground.specs.Digits.{valueOf}
 use Rattle.gray.specs.declared.ConstellationOrder.{ConstellationOrder}
 use Rattle.gray.specs.declared.Mapped.{Mapped}
 use Rattle.gray.specs.declared.Mapped.the-variants.{Point, Refused}
 use Rattle.gray.specs.Levels.{isSize, orderOf, axisBits, at}
-
--- the number that bits write, high first, behind those that wrote a
-abbrev pub number : ℕ → List ℕ → ℕ
-number a [] = a
-number a (b ∷ r) = number (2 * a + b) r
 
 -- the k bits at the places a, a + 2, ..
 abbrev pub everyOther : ℕ → ℕ → List ℕ → List ℕ
@@ -24,11 +19,7 @@ everyOther (suc k) a bits = getD bits a 0 ∷ everyOther k (a + 2) bits
 
 -- the index on the axis whose first bit is at a: 0 for I, 1 for Q
 abbrev pub index : ConstellationOrder → ℕ → List ℕ → ℕ
-index o a bits = number 0 (everyOther (axisBits o) a bits)
-
-abbrev pub areBits : List ℕ → Bool
-areBits [] = true
-areBits (b ∷ r) = ltb b 2 && areBits r
+index o a bits = valueOf 0 (everyOther (axisBits o) a bits)
 
 -- document 01's number and the coordinates, for each case of the answer
 abbrev pub numberOf : Mapped → ℕ

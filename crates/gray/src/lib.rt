@@ -3,14 +3,15 @@ ghost use mathlib.Core.Path.{_≡_};
 ghost use mathlib.Core.Bool.{cond};
 ghost use Prim.Native.Nat.{_+_, _*_, _%_, _^_, _≤_, _<_};
 ghost use mathlib.Core.List.{_++_};
-ghost use lib.Dec.{T};
 ghost use lib.IntN.{pos};
 ghost use lib.ListN.{length, getD, drop};
 ghost use lib.Ieee.{binary32, ofInt, lt};
 ghost use Rattle.ground.specs.Answer.{counted, kept};
+ghost use Rattle.ground.specs.Bits.{Bits};
+ghost use Rattle.ground.specs.Digits.{valueOf, digitsOf};
 ghost use Rattle.gray.specs.Levels.{axisBits, levels, scale, at};
-ghost use Rattle.gray.specs.Mapping.{number, everyOther, areBits, mappedOf};
-ghost use Rattle.gray.specs.Hard.{digits, weave, distances, First, demapNo, Wrote, Demapped};
+ghost use Rattle.gray.specs.Mapping.{everyOther, mappedOf};
+ghost use Rattle.gray.specs.Hard.{weave, distances, First, demapNo, Wrote, Demapped};
 ghost use Rattle.gray.specs.Soft.{square, lesser, soft, softOf};
 ghost use Rattle.gray.specs.Inner.{placed, away, Leads, roomNo};
 use ground::Cell;
@@ -107,23 +108,9 @@ fn axis_bits(order: ConstellationOrder) -> usize
     }
 }
 
-// Whether every item is 0 or 1.
-fn are_bits(bits: &[u8]) -> bool
-    ensures { λ r. ⌜ r ≡ areBits (now (bits .entry)) ⌝ }
-{
-    let mut i: usize = 0;
-    while i < bits.len() {
-        if bits[i] > 1 {
-            return false;
-        }
-        i += 1;
-    }
-    true
-}
-
 // The bit at a place.
 fn bit(bits: &[u8], place: usize) -> usize
-    requires { ⌜ (place < length (now bits)) × T (areBits (now bits)) ⌝ }
+    requires { ⌜ (place < length (now bits)) × Bits (now bits) ⌝ }
     ensures { λ r. ⌜ (r ≡ getD (now (bits .entry)) place 0) × (r < 2) ⌝ }
 {
     bits[place] as usize
@@ -131,8 +118,8 @@ fn bit(bits: &[u8], place: usize) -> usize
 
 // The index that the bits of an axis write, from its first bit on, every other one.
 fn axis_index(bits: &[u8], first: usize, count: usize) -> usize
-    requires { ⌜ (first < 2) × (1 ≤ count) × (count ≤ 3) × (2 * count ≤ length (now bits)) × T (areBits (now bits)) ⌝ }
-    ensures { λ r. ⌜ (r ≡ number 0 (everyOther count first (now (bits .entry)))) × (r < 2 ^ count) ⌝ }
+    requires { ⌜ (first < 2) × (1 ≤ count) × (count ≤ 3) × (2 * count ≤ length (now bits)) × Bits (now bits) ⌝ }
+    ensures { λ r. ⌜ (r ≡ valueOf 0 (everyOther count first (now (bits .entry)))) × (r < 2 ^ count) ⌝ }
 {
     let high = bit(bits, first);
     if count == 1 {
@@ -152,7 +139,7 @@ fn place(order: ConstellationOrder, bits: &[u8]) -> Mapped
     requires { ⌜ 2 * axisBits order ≤ length (now bits) ⌝ }
     ensures { λ r. ⌜ r ≡ placed order (now (bits .entry)) ⌝ }
 {
-    if are_bits(bits) {
+    if ground::inner::all_bits(bits) {
         let count = axis_bits(order);
         let i = axis_index(bits, 0, count);
         let q = axis_index(bits, 1, count);
@@ -268,7 +255,7 @@ fn low_bit(x: usize) -> u8
 // The low bits of two indices, high first, in turn.
 fn write_bits(count: usize, i: usize, q: usize, out: &mut [u8])
     requires { ⌜ (count ≤ 3) × (2 * count ≤ length (now out)) ⌝ }
-    ensures { λ _. ⌜ now (out .exit) ≡ weave (digits count i) (digits count q) ++ drop (2 * count) (now (out .entry)) ⌝ }
+    ensures { λ _. ⌜ now (out .exit) ≡ weave (digitsOf count i) (digitsOf count q) ++ drop (2 * count) (now (out .entry)) ⌝ }
 {
     let mut j: usize = 0;
     while j < count {

@@ -1,8 +1,12 @@
 // The cases: each calls its function on the input in a slice that is filled with one byte before, and compares the answer and the whole slice.
-ghost use mathlib.Core.Path.{_≡_};
 ghost use Prim.Native.Nat.{_≤_};
 ghost use lib.ListN.{length};
+use crate::codes;
 use crate::constellation;
+use crate::sessions;
+use crate::signals;
+use crate::symbols;
+use crate::words;
 use dispersal::DvbTEnergyDispersal;
 use ground::Counted;
 
@@ -126,6 +130,29 @@ fn feed(before: usize, input: &[u8], output: &[u8], slice: &mut [u8]) -> bool
     front_is(output, slice)
 }
 
+// Whether the answer of a function of TPS, symbols or the session is the refusal or the output.
+fn is_met_in_frame(
+    function: usize,
+    number: usize,
+    input: &[u8],
+    refusal: u8,
+    output: &[u8],
+    slice: &mut [u8],
+) -> bool {
+    match function {
+        9 => codes::encode(input, refusal, output, slice),
+        10 => codes::decode(input, refusal, output, slice),
+        11 => words::pack(input, refusal, output, slice),
+        12 => words::unpack(input, refusal, output),
+        13 => signals::send(input, output),
+        14 => signals::receive(input, output),
+        15 => symbols::extract(number, output),
+        16 => symbols::mapped(number, output),
+        17 => sessions::session(input, output),
+        _ => false,
+    }
+}
+
 // Whether the answer of a function is the refusal or the output.
 pub(crate) fn is_met(
     function: usize,
@@ -134,7 +161,7 @@ pub(crate) fn is_met(
     refusal: u8,
     output: &[u8],
 ) -> bool {
-    let mut room = [0u8; 4096];
+    let mut room = [0u8; 16384];
     let slice: &mut [u8] = &mut room;
     if slice.len() < input.len() {
         return false;
@@ -149,6 +176,6 @@ pub(crate) fn is_met(
         6 => constellation::map(input, refusal, output),
         7 => constellation::demap(number, input, refusal, output, slice),
         8 => constellation::soft(number, input, refusal, output),
-        _ => false,
+        _ => is_met_in_frame(function, number, input, refusal, output, slice),
     }
 }

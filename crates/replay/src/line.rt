@@ -1,6 +1,5 @@
 // One line of the list: FUNCTION NUMBER INPUT OUTPUT, the last two in hexadecimal, - for none, and ! with a digit for a refusal.
-ghost use mathlib.Core.Path.{_≡_};
-ghost use Prim.Native.Nat.{_<_, _≤_};
+ghost use Prim.Native.Nat.{_≤_};
 ghost use lib.ListN.{length};
 use crate::cases;
 
@@ -104,7 +103,44 @@ fn put_bytes(text: &[u8], out: &mut [u8]) -> usize
     i
 }
 
-// The function of gray mapping that a name stands for, or 9.
+// The function of symbols or the session that a name stands for, or 18.
+fn symbol_function_of(name: &[u8]) -> usize {
+    if check::same(name, b"extract") {
+        return 15;
+    }
+    if check::same(name, b"mapped") {
+        return 16;
+    }
+    if check::same(name, b"session") {
+        return 17;
+    }
+    18
+}
+
+// The function of TPS that a name stands for, or that of symbols.
+fn tps_function_of(name: &[u8]) -> usize {
+    if check::same(name, b"encode") {
+        return 9;
+    }
+    if check::same(name, b"decode") {
+        return 10;
+    }
+    if check::same(name, b"pack") {
+        return 11;
+    }
+    if check::same(name, b"unpack") {
+        return 12;
+    }
+    if check::same(name, b"send") {
+        return 13;
+    }
+    if check::same(name, b"receive") {
+        return 14;
+    }
+    symbol_function_of(name)
+}
+
+// The function of gray mapping that a name stands for, or that of TPS.
 fn constellation_function_of(name: &[u8]) -> usize {
     if check::same(name, b"map") {
         return 6;
@@ -115,10 +151,10 @@ fn constellation_function_of(name: &[u8]) -> usize {
     if check::same(name, b"soft") {
         return 8;
     }
-    9
+    tps_function_of(name)
 }
 
-// The function that a name stands for, or 9.
+// The function that a name stands for, or 18.
 fn function_of(name: &[u8]) -> usize {
     if check::same(name, b"packetize") {
         return 0;
@@ -233,7 +269,7 @@ pub(crate) fn replayed(text: &[u8], given: &mut [u8], wanted: &mut [u8]) -> Outc
 
 // The outcome of a line: a turned one has to be found different.
 fn outcome_of(function: usize, turned: bool, met: bool) -> Outcome {
-    if function == 9 {
+    if function == 18 {
         return Outcome::Wrong;
     }
     if turned {

@@ -3,9 +3,11 @@ ghost use mathlib.Core.Path.{_≡_};
 ghost use lib.Dec.{leb};
 ghost use Rattle.ground.specs.Answer.{pick};
 ghost use Rattle.tps.specs.Send.{freshEncoder, sentOf, sentLeaves};
-ghost use Rattle.tps.specs.Receive.{freshDecoder, fedOf, Words};
+ghost use Rattle.tps.specs.Receive.{freshDecoder, fedOf, receivedAnswer, receivedLeaves, Words};
+ghost use Rattle.tps.specs.Lent.{lentDecoder};
+ghost use Rattle.saltkernel.specs.Numbers.{Says};
 ghost use Rattle.saltkernel.specs.Words.{SaysOneThat};
-ghost use Rattle.saltkernel.specs.Frames.{SaysSent, SaysFed};
+ghost use Rattle.saltkernel.specs.Frames.{SaysSent, SaysBit, SaysFed};
 use super::SaltCounted;
 use super::numbers_of;
 use super::words::SaltUnpacked;
@@ -27,6 +29,23 @@ pub struct SaltTpsFed {
     pub number: u8,
     pub bit: u8,
     pub decoder: TpsDecoder,
+}
+
+// A bit, or a refusal's number: the number is 0 where the call was accepted, and elsewhere the bit is 0.
+#[repr(C)]
+pub struct SaltTpsBit {
+    pub number: u8,
+    pub bit: u8,
+}
+
+// A bit as numbers.
+fn bit_numbers_of(answer: TpsBit) -> SaltTpsBit
+    ensures { λ r. ⌜ SaysBit r answer ⌝ }
+{
+    match answer {
+        TpsBit::Bit(bit) => SaltTpsBit { number: 0, bit },
+        TpsBit::Refused(number) => SaltTpsBit { number, bit: 0 },
+    }
 }
 
 // TpsEncoder::new.
@@ -87,19 +106,38 @@ pub extern "C" fn salt_tps_decoder_feed_symbol(decoder: TpsDecoder, cells: &[f32
 {
     let fed = decoder.feed_symbol(cells);
     let answer = fed.answer;
-    let next = fed.decoder;
     match answer {
-        TpsBit::Bit(bit) => SaltTpsFed {
-            number: 0,
-            bit,
-            decoder: next,
-        },
-        TpsBit::Refused(number) => SaltTpsFed {
-            number,
-            bit: 0,
-            decoder: next,
-        },
+        TpsBit::Bit(bit) => {
+            let next = fed.decoder;
+            SaltTpsFed {
+                number: 0,
+                bit,
+                decoder: next,
+            }
+        }
+        TpsBit::Refused(number) => {
+            let kept = fed.decoder;
+            SaltTpsFed {
+                number,
+                bit: 0,
+                decoder: kept,
+            }
+        }
     }
+}
+
+// TpsDecoder::feed_symbol on a receiver that is lent in parts: its cells, re and im in turn, its bits and its count.
+#[no_mangle]
+pub extern "C" fn salt_tps_decoder_feed_in_place(
+    prev: &mut [f32; 34],
+    bits: &mut [u8; 68],
+    count: &mut usize,
+    cells: &[f32],
+) -> SaltTpsBit
+    ensures answer { λ r. ⌜ SaysBit r (fedOf (lentDecoder (now (prev .entry)) (now (bits .entry)) (now (count .entry))) (now (cells .entry)) .answer) ⌝ }
+    ensures decoder { λ _. ⌜ lentDecoder (now (prev .exit)) (now (bits .exit)) (now (count .exit)) ≡ fedOf (lentDecoder (now (prev .entry)) (now (bits .entry)) (now (count .entry))) (now (cells .entry)) .decoder ⌝ }
+{
+    bit_numbers_of(tps::lent::feed_symbol(prev, bits, count, cells))
 }
 
 // TpsDecoder::is_complete, 1 for true.
@@ -108,6 +146,15 @@ pub extern "C" fn salt_tps_decoder_is_complete(decoder: TpsDecoder) -> u8
     ensures { λ r. ⌜ r ≡ pick (leb 68 (decoder .count)) 1 0 ⌝ }
 {
     if decoder.is_complete() { 1 } else { 0 }
+}
+
+// TpsDecoder::bits.
+#[no_mangle]
+pub extern "C" fn salt_tps_decoder_bits(decoder: TpsDecoder, out: &mut [u8]) -> SaltCounted
+    ensures answer { λ r. ⌜ Says r (receivedAnswer decoder (now (out .entry))) ⌝ }
+    ensures output { λ _. ⌜ now (out .exit) ≡ receivedLeaves decoder (now (out .entry)) ⌝ }
+{
+    numbers_of(decoder.bits(out))
 }
 
 // TpsDecoder::word.

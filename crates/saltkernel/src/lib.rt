@@ -1,4 +1,4 @@
-// The C interface: each function is its library function, with an enum's answer as numbers. A slice is a pointer and then a length.
+// The C interface: each function is its library function, with an enum's answer as numbers. A slice is a pointer and then a length; a lent array or number is a pointer.
 ghost use Rattle.saltkernel.specs.Numbers.{Says};
 use ground::Counted;
 

@@ -10,9 +10,9 @@ use lib.Seq.{take-all}
 use borrow.Author.Tests.{le-ltb}
 use Rattle.ground.specs.Refusal.{ACCEPTED, NO-WORD, INCOMPLETE}
 use Rattle.ground.specs.Answer.{pick}
-use Rattle.bch.specs.Poly.{Bits}
+use Rattle.ground.specs.Bits.{Bits}
 use Rattle.bch.specs.Promise.{Lone}
-use Rattle.bch.proofs.Checking.{are-bits}
+use Rattle.ground.proofs.Bits.{are-bits}
 use Rattle.tps.specs.declared.TpsDecoder.{TpsDecoder}
 use Rattle.tps.specs.declared.Unpacked.{Unpacked}
 use Rattle.tps.specs.declared.Unpacked.the-variants.{Word, Refused}

@@ -13,13 +13,13 @@ use borrow.Author.Tests.{eqb-true}
 use Rattle.ground.specs.Refusal.{ACCEPTED, LENGTH, NOT-A-BIT, INCOMPLETE}
 use Rattle.ground.specs.Answer.{pick}
 use Rattle.ground.specs.declared.Counted.{Counted}
-use Rattle.bch.specs.Poly.{Bits, digitsOf}
+use Rattle.ground.specs.Bits.{Bits, areBits}
+use Rattle.ground.specs.Digits.{digitsOf}
+use Rattle.ground.proofs.Bits.{bits-drop, bits-of, are-bits}
+use Rattle.ground.proofs.Digits.{small-digits}
 use Rattle.bch.specs.Code.{distance, parity, encode}
-use Rattle.bch.specs.Promise.{areBits}
-use Rattle.bch.proofs.Digits.{bits-drop, small-digits}
 use Rattle.bch.proofs.Distance.{unique}
 use Rattle.bch.proofs.Encoding.{encode-codeword}
-use Rattle.bch.proofs.Checking.{bits-of, are-bits}
 use Rattle.tps.specs.declared.ConstellationOrder.{ConstellationOrder}
 use Rattle.tps.specs.declared.ConstellationOrder.the-variants.{Qpsk, Qam16, Qam64}
 use Rattle.tps.specs.declared.PunctureRate.{PunctureRate}

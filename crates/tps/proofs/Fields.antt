@@ -7,8 +7,10 @@ use native.Mathlib.Omega.{arith}
 use lib.Pow.{mod-pow-add}
 use lib.ListN.{length, take, drop, length-drop}
 use lib.Seq.{length-take-le}
-use Rattle.bch.specs.Poly.{Bits, digitsOf, valueOf}
-use Rattle.bch.proofs.Digits.{bits-append, bits-take, bits-drop, digits-bits, number-below}
+use Rattle.ground.specs.Bits.{Bits}
+use Rattle.ground.specs.Digits.{digitsOf, valueOf}
+use Rattle.ground.proofs.Bits.{bits-append, bits-take, bits-drop}
+use Rattle.ground.proofs.Digits.{digits-bits, number-below}
 use Rattle.tps.specs.declared.TpsWord.{TpsWord}
 use Rattle.tps.specs.Word.{Field, bitsOf, constellationCode, rateCode, guardCode, syncOf, fieldsOf, informationOf}
 

@@ -5,9 +5,9 @@ use Prim.Native.Nat.{ℕ, _<_}
 use native.Mathlib.Omega.{arith}
 use lib.Ieee.{Float}
 use lib.ListN.{length, replicate, length-append}
-use Rattle.bch.specs.Poly.{Bits}
+use Rattle.ground.specs.Bits.{Bits}
+use Rattle.ground.proofs.Bits.{bits-append}
 use Rattle.bch.specs.Code.{encode}
-use Rattle.bch.proofs.Digits.{bits-append}
 use Rattle.carriers.specs.Pilots.{null}
 use Rattle.tps.specs.declared.TpsEncoder.{TpsEncoder}
 use Rattle.tps.specs.declared.TpsDecoder.{TpsDecoder}

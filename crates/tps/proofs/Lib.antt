@@ -6,5 +6,8 @@ pub mod Reading
 pub mod Received
 pub mod Signs
 pub mod Sending
+pub mod Heard
+pub mod Standing
 pub mod Frame
 pub mod Frames
+pub mod Held

@@ -10,10 +10,12 @@ use borrow.Author.Tests.{lt-ltb, le-ltb}
 use Rattle.ground.specs.Refusal.{ACCEPTED, OUTPUT-SHORT}
 use Rattle.ground.specs.Answer.{counted, kept, written}
 use Rattle.ground.specs.declared.Counted.the-variants.{Count, Refused}
+use Rattle.ground.specs.Bits.{Bits}
+use Rattle.ground.specs.Digits.{digitsOf, valueOf}
 use Rattle.ground.proofs.Front.{front, front-next, front-part, front-length, front-whole}
-use Rattle.bch.specs.Poly.{Bits, digitsOf, valueOf}
+use Rattle.ground.proofs.Bits.{bits-append}
+use Rattle.ground.proofs.Digits.{digits-bits, digits-length}
 use Rattle.bch.specs.Code.{parity}
-use Rattle.bch.proofs.Digits.{bits-append, digits-bits, digits-length}
 use Rattle.bch.proofs.Encoding.{encode-length}
 use Rattle.bch.proofs.Packing.{information-digits}
 use Rattle.tps.specs.declared.TpsWord.{TpsWord}

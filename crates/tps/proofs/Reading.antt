@@ -12,10 +12,9 @@ use lib.Seq.{length-take-le}
 use borrow.Author.Tests.{eqb-true}
 use Rattle.ground.specs.Refusal.{ACCEPTED, LENGTH, NOT-A-BIT, INCOMPLETE}
 use Rattle.ground.specs.Answer.{pick}
-use Rattle.bch.specs.Poly.{Bits}
-use Rattle.bch.specs.Promise.{areBits}
+use Rattle.ground.specs.Bits.{Bits, areBits}
+use Rattle.ground.proofs.Bits.{bits-take}
 use Rattle.bch.specs.Near.{Near, found, none, nearOf}
-use Rattle.bch.proofs.Digits.{bits-take}
 use Rattle.bch.proofs.Near.{near-found, near-none}
 use Rattle.tps.specs.declared.ConstellationRead.{ConstellationRead}
 use Rattle.tps.specs.declared.ConstellationRead.the-variants as constellation

@@ -1,7 +1,6 @@
 -- The bits of the pilot sequence at the 17 TPS carriers, computed once. Assumes nothing.
 use mathlib.Core.Path.{_≡_, refl}
 use mathlib.Core.List.{List, [], _∷_, map}
-use Prim.Native.Nat.{ℕ}
 use lib.Ieee.{Float}
 use Rattle.carriers.specs.Mode.{tps2k}
 use Rattle.carriers.specs.Sequence.{step, register, wk}

@@ -12,10 +12,9 @@ use borrow.Author.Tests.{eq-eqb, ne-eqb, lt-ltb, le-ltb}
 use Rattle.ground.specs.Refusal.{ACCEPTED, LENGTH, NOT-A-BIT, NO-WORD, RESERVED}
 use Rattle.ground.specs.declared.Counted.{Counted}
 use Rattle.ground.specs.declared.Counted.the-variants as counts
-use Rattle.bch.specs.Poly.{Bits}
-use Rattle.bch.specs.Promise.{areBits, Corrected, Answers, Decodes}
-use Rattle.bch.proofs.Digits.{bits-drop, bits-take}
-use Rattle.bch.proofs.Checking.{bits-of, are-bits}
+use Rattle.ground.specs.Bits.{Bits, areBits}
+use Rattle.ground.proofs.Bits.{bits-drop, bits-take, bits-of, are-bits}
+use Rattle.bch.specs.Promise.{Corrected, Answers, Decodes}
 use Rattle.bch.proofs.Answering as bch
 use Rattle.tps.specs.declared.ConstellationOrder.{ConstellationOrder}
 use Rattle.tps.specs.declared.PunctureRate.{PunctureRate}

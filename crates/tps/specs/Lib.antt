@@ -5,3 +5,4 @@ pub mod Inner
 pub mod Send
 pub mod Receive
 pub mod Frame
+pub mod Lent

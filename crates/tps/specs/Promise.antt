@@ -8,9 +8,10 @@ use lib.ListN.{length, take, drop}
 use Rattle.ground.specs.Refusal.{ACCEPTED, LENGTH, NOT-A-BIT, OUTPUT-SHORT, NO-WORD, RESERVED}
 use Rattle.ground.specs.Answer.{pick, counted, kept, written}
 use Rattle.ground.specs.declared.Counted.{Counted}
-use Rattle.bch.specs.Poly.{valueOf}
+use Rattle.ground.specs.Bits.{areBits}
+use Rattle.ground.specs.Digits.{valueOf}
 use Rattle.bch.specs.Code.{Codeword, distance}
-use Rattle.bch.specs.Promise.{areBits, Lone}
+use Rattle.bch.specs.Promise.{Lone}
 use Rattle.tps.specs.declared.TpsWord.{TpsWord}
 use Rattle.tps.specs.declared.Unpacked.{Unpacked}
 use Rattle.tps.specs.declared.Unpacked.the-variants.{Word, Refused}

@@ -3,7 +3,7 @@ use mathlib.Core.List.{List, [], _∷_, _++_}
 use Prim.Native.Nat.{ℕ, _%_}
 use lib.Dec.{eqb}
 use Rattle.ground.specs.Answer.{pick}
-use Rattle.bch.specs.Poly.{digitsOf}
+use Rattle.ground.specs.Digits.{digitsOf}
 use Rattle.bch.specs.Code.{encode}
 use Rattle.tps.specs.declared.ConstellationOrder.{ConstellationOrder}
 use Rattle.tps.specs.declared.ConstellationOrder.the-variants.{Qpsk, Qam16, Qam64}

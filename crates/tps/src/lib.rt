@@ -2,7 +2,8 @@
 ghost use mathlib.Core.Path.{_≡_};
 ghost use Prim.Native.Nat.{_-_, _^_, _≤_, _<_};
 ghost use lib.ListN.{length, take, drop};
-ghost use Rattle.bch.specs.Poly.{Bits, valueOf};
+ghost use Rattle.ground.specs.Bits.{Bits};
+ghost use Rattle.ground.specs.Digits.{valueOf};
 ghost use Rattle.tps.specs.Word.{constellationCode, rateCode, guardCode, syncOf, informationOf};
 ghost use Rattle.tps.specs.Promise.{packAnswer, packLeaves, Unpacks};
 ghost use Rattle.tps.specs.Inner.{ConstellationIs, RateIs, CodesOf};
@@ -18,6 +19,7 @@ use ground::Cell;
 use ground::Counted;
 
 pub mod inner;
+pub mod lent;
 
 // The constellation of the data cells.
 pub enum ConstellationOrder {
@@ -233,7 +235,7 @@ impl TpsWord {
             return Unpacked::Refused(ground::NOT_A_BIT);
         }
         let code = &bits[1..];
-        if !bch::inner::all_bits(code) {
+        if !ground::inner::all_bits(code) {
             return Unpacked::Refused(ground::NOT_A_BIT);
         }
         let mut information = [0u8; 53];

@@ -1,7 +1,7 @@
 -- `gray::candidate_at` meets its contract: of the difference and its negative it keeps the larger. Assumes nothing.
 use mathlib.Core.Path.{refl}
-use Rattle.gray.proofs.Nearest.{away-negated, away-plain}
 use borrow.Author.Needs.{needs}
+use Rattle.gray.proofs.Away.{away-negated, away-plain}
 use Rattle.gray.proofs.candidate_at.Statement.{statement}
 use Rattle.gray.proofs.candidate_at.Tie as tie
 

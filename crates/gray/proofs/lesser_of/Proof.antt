@@ -1,6 +1,6 @@
 -- `gray::lesser_of` meets its contract: its test is the definition's. Assumes nothing.
 use lib.Ieee.{lt}
-use Rattle.gray.proofs.Nearest.{picked, passed}
+use Rattle.gray.proofs.Tests.{picked, passed}
 use Rattle.gray.proofs.lesser_of.Statement.{statement}
 use Rattle.gray.proofs.lesser_of.Tie as tie
 

@@ -1,6 +1,6 @@
 -- `gray::nearer` meets its contract: its test is the contract's. Assumes nothing.
 use lib.Ieee.{lt}
-use Rattle.gray.proofs.Nearest.{picked, passed}
+use Rattle.gray.proofs.Tests.{picked, passed}
 use Rattle.gray.proofs.nearer.Statement.{statement}
 use Rattle.gray.proofs.nearer.Tie as tie
 

@@ -1,6 +1,6 @@
 -- `gray::nearest_of_eight` meets its contract: two runs of four side by side. Assumes nothing.
-use Rattle.gray.proofs.Nearest.{leads-both}
 use borrow.Author.Needs.{needs}
+use Rattle.gray.proofs.Leads.{leads-both}
 use Rattle.gray.proofs.nearest_of_eight.Statement.{statement}
 use Rattle.gray.proofs.nearest_of_eight.Tie as tie
 

@@ -3,7 +3,7 @@ use native.Mathlib.Omega.{arith}
 use Prim.Native.Nat.{ℕ, _+_}
 use mathlib.Core.Path.{_≡_, subst}
 use Rattle.gray.specs.Inner.{Leads}
-use Rattle.gray.proofs.Nearest.{few-levels, leads-both}
+use Rattle.gray.proofs.Leads.{few-levels, leads-both}
 use borrow.Author.Needs.{needs}
 use Rattle.gray.proofs.nearest_of_four.Statement.{statement}
 use Rattle.gray.proofs.nearest_of_four.Tie as tie

@@ -1,7 +1,7 @@
 -- `gray::nearest_of_two` meets its contract: two runs of one index side by side. Assumes nothing.
 use native.Mathlib.Omega.{arith}
 use mathlib.Core.Path.{refl}
-use Rattle.gray.proofs.Nearest.{few-levels, leads-one, leads-both}
+use Rattle.gray.proofs.Leads.{few-levels, leads-one, leads-both}
 use borrow.Author.Needs.{needs}
 use Rattle.gray.proofs.nearest_of_two.Statement.{statement}
 use Rattle.gray.proofs.nearest_of_two.Tie as tie

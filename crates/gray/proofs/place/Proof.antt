@@ -1,16 +1,16 @@
 -- `gray::place` meets its contract: each axis has the coordinate at the index of its bits. Assumes nothing.
 use native.Mathlib.Omega.{arith}
-use mathlib.Core.Path.{sym, _∙_, subst}
-use lib.Dec.{T}
+use mathlib.Core.Path.{sym, _∙_}
 use denote.Ref.{now}
-use Rattle.gray.specs.Mapping.{areBits}
+use Rattle.ground.specs.Bits.{Bits}
+use Rattle.ground.proofs.Bits.{bits-of}
 use Rattle.gray.proofs.Answers.{axis-range, in-levels, placed-on, placed-at}
 use borrow.Author.Needs.{needs}
 use Rattle.gray.proofs.place.Statement.{statement}
 use Rattle.gray.proofs.place.Tie as tie
 
-are-bits-requires : tie.Need-are-bits-requires
-are-bits-requires c κs = search needs
+all-bits-requires : tie.Need-all-bits-requires
+all-bits-requires c κs = search needs
 
 axis-bits-requires : tie.Need-axis-bits-requires
 axis-bits-requires c κs = search needs
@@ -19,14 +19,14 @@ axis-index-requires : tie.Need-axis-index-requires
 axis-index-requires c κs =
     let o = c .before .before .before .before .args .order in
     let bits = now (c .before .before .before .before .args .bits) in
-    let h : T (areBits bits) = subst T (sym (c .before .if1 .taken) ∙ c .before .before .are-bits .ensures) tt in
+    let h : Bits bits = bits-of bits (sym (c .before .before .all-bits .ensures) ∙ c .before .if1 .taken) in
     (search needs, omega (arith, axis-range o), omega (arith, axis-range o), omega arith, h)
 
 axis-index-requires-2 : tie.Need-axis-index-requires-2
 axis-index-requires-2 c κs =
     let o = c .before .before .before .before .before .args .order in
     let bits = now (c .before .before .before .before .before .args .bits) in
-    let h : T (areBits bits) = subst T (sym (c .before .before .if1 .taken) ∙ c .before .before .before .are-bits .ensures) tt in
+    let h : Bits bits = bits-of bits (sym (c .before .before .before .all-bits .ensures) ∙ c .before .before .if1 .taken) in
     (search needs, omega (arith, axis-range o), omega (arith, axis-range o), omega arith, h)
 
 axis-point-requires : tie.Need-axis-point-requires
@@ -41,7 +41,7 @@ returns c =
     let o = start .args .order in
     let bits = now (start .args .bits) in
     let k = c .before .before .before .before .axis-bits .ensures in
-    placed-at o bits _ _ (sym (c .before .before .before .before .before .before .are-bits .ensures) ∙ c .before .before .before .before .before .if1 .taken)
+    placed-at o bits _ _ (sym (c .before .before .before .before .before .before .all-bits .ensures) ∙ c .before .before .before .before .before .if1 .taken)
     (placed-on o bits 0 _ _ _ k (c .before .axis-point .ensures) (c .before .before .before .axis-index .ensures .0))
     (placed-on o bits 1 _ _ _ k (c .axis-point2 .ensures) (c .before .before .axis-index2 .ensures .0))
 
@@ -52,7 +52,7 @@ pub place-spec : {M : Type 1} → statement M
 place-spec =
     tie.close
     (tie.spec
-    are-bits-requires
+    all-bits-requires
     axis-bits-requires
     axis-index-requires
     axis-index-requires-2

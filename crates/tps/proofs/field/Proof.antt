@@ -3,7 +3,7 @@ use native.Mathlib.Omega.{arith}
 use Prim.Native.Nat.{_-_}
 use lib.ListN.{drop, length-drop}
 use lib.Seq.{length-take-le}
-use Rattle.bch.proofs.Digits.{bits-take, bits-drop}
+use Rattle.ground.proofs.Bits.{bits-take, bits-drop}
 use Rattle.tps.proofs.Fields.{field-below}
 use borrow.Author.Needs.{needs}
 use Rattle.tps.proofs.field.Statement.{statement}

@@ -1,7 +1,9 @@
 -- `bch::inner::locate` meets its contract: by the syndromes, which tell the remainder. Assumes nothing.
 use mathlib.Core.Path.{sym, _∙_, subst}
 use Prim.Native.Nat.{ℕ, _<_, _^_}
-use Rattle.bch.proofs.Syndromes.{syn1-lt, lone, syndromes-are}
+use Rattle.bch.proofs.Syndromes.{syn1-lt}
+use Rattle.bch.proofs.Wrong.{lone}
+use Rattle.bch.proofs.Roots.{syndromes-are}
 use borrow.Author.Needs.{needs}
 use Rattle.bch.proofs.inner.locate.Statement.{statement}
 use Rattle.bch.proofs.inner.locate.Tie as tie

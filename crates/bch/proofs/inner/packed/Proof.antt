@@ -4,8 +4,9 @@ use mathlib.Core.Path.{_≡_, refl}
 use Prim.Native.Nat.{_≤_, _<_, _-_, _^_}
 use lib.ListN.{length, drop}
 use lib.Pow.{pow-mono}
-use Rattle.bch.specs.Poly.{valueOf}
-use Rattle.bch.proofs.Digits.{bits-at, number-next, number-done}
+use Rattle.ground.specs.Digits.{valueOf}
+use Rattle.ground.proofs.Bits.{bits-at}
+use Rattle.ground.proofs.Digits.{number-next, number-done}
 use borrow.Author.Needs.{needs}
 use Rattle.bch.proofs.inner.packed.Statement.{statement}
 use Rattle.bch.proofs.inner.packed.Tie as tie

@@ -3,9 +3,9 @@ use native.Mathlib.Omega.{arith}
 use mathlib.Core.Path.{_≡_, refl, sym, ap, _∙_}
 use Prim.Native.Nat.{_≤_, _+_, _-_, _/_, _%_, _^_}
 use lib.ListN.{length}
+use Rattle.ground.specs.Digits.{digitsOf}
 use Rattle.ground.proofs.Front.{front, front-next, front-length, front-full}
-use Rattle.bch.specs.Poly.{digitsOf}
-use Rattle.bch.proofs.Digits.{digits-at, digits-length}
+use Rattle.ground.proofs.Digits.{digits-at, digits-length}
 use borrow.Author.Needs.{needs}
 use Rattle.bch.proofs.inner.put_digits.Statement.{statement}
 use Rattle.bch.proofs.inner.put_digits.Tie as tie

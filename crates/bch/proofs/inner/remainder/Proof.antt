@@ -6,9 +6,10 @@ use Prim.Native.Nat.{ℕ, _-_, _≤_}
 use lib.Bits.{bitXor}
 use lib.ListN.{length, take, drop, length-drop}
 use lib.Seq.{length-take-le, take-all}
-use Rattle.bch.specs.Poly.{Bits, valueOf}
+use Rattle.ground.specs.Bits.{Bits}
+use Rattle.ground.specs.Digits.{valueOf}
+use Rattle.ground.proofs.Bits.{bits-take, bits-drop}
 use Rattle.bch.specs.Code.{parity}
-use Rattle.bch.proofs.Digits.{bits-take, bits-drop}
 use Rattle.bch.proofs.Packing.{information-digits, rem-split}
 use borrow.Author.Needs.{needs}
 use Rattle.bch.proofs.inner.remainder.Statement.{statement}

@@ -1,17 +1,17 @@
 -- `bch::inner::sum_at_x` meets its contract: the sum so far, and Horner's rule on the digits left, make the whole. Assumes nothing.
 use native.Mathlib.Omega.{arith}
-use mathlib.Core.Path.{_≡_, refl, subst, sym}
-use Prim.Native.Nat.{ℕ, _<_, _%_, _^_}
-use lib.Bits.{bitXor}
+use mathlib.Core.Path.{refl}
+use Prim.Native.Nat.{_%_}
+use Rattle.ground.proofs.Xor.{odd}
 use Rattle.bch.specs.Field.{timesX, horner}
-use Rattle.bch.proofs.Xor.{odd}
-use Rattle.bch.proofs.Field.{x-additive, digit-lt, horner-next, horner-done}
+use Rattle.bch.proofs.Additive.{x-additive}
+use Rattle.bch.proofs.Horner.{digit-lt, Summing, sum-next, sum-done}
 use borrow.Author.Needs.{needs}
 use Rattle.bch.proofs.inner.sum_at_x.Statement.{statement}
 use Rattle.bch.proofs.inner.sum_at_x.Tie as tie
 
 abbrev Inv-loop : tie.InvT-loop
-Inv-loop a digits n sum₀ term₀ rest₀ left₀ sum term rest left = (term < 2 ^ 7) × (bitXor sum (horner timesX left term rest) ≡ horner timesX n a digits)
+Inv-loop a digits n sum₀ term₀ rest₀ left₀ sum term rest left = Summing timesX x-additive (horner timesX n a digits) sum term rest left
 
 abbrev μ-loop : tie.MeasureT-loop
 μ-loop a digits n sum₀ term₀ rest₀ left₀ sum term rest left = left
@@ -38,17 +38,14 @@ loop-less c = search needs
 loop-again : tie.Need-loop-again Inv-loop μ-loop
 loop-again c =
     let l = c .before .before .loop in
-    let z = c .before .before .before .args in (
-      subst (λ (x : ℕ). x < 2 ^ 7) (sym (c .times-x .ensures)) (x-additive .lt (l .term) (l .inv .0)),
-      horner-next timesX x-additive (l .sum) (l .term) (l .rest) (l .left) (horner timesX (z .n) (z .a) (z .digits)) (c .times-x .result) (l .inv .0)
-          (c .before .loop-test .taken) (c .times-x .ensures) (l .inv .1),
-    )
+    let z = c .before .before .before .args in
+    sum-next timesX x-additive (horner timesX (z .n) (z .a) (z .digits)) (l .sum) (l .term) (l .rest) (l .left) (c .times-x .result) (l .inv) (c .before .loop-test .taken) (c .times-x .ensures)
 
 returns : tie.Need-returns Inv-loop μ-loop
 returns c =
     let l = c .before .loop in
     let z = c .before .before .args in
-    horner-done timesX x-additive (l .sum) (l .term) (l .rest) (l .left) (horner timesX (z .n) (z .a) (z .digits)) (c .loop-test .left) (l .inv .1)
+    sum-done timesX x-additive (horner timesX (z .n) (z .a) (z .digits)) (l .sum) (l .term) (l .rest) (l .left) (l .inv) (c .loop-test .left)
 
 pub sum-at-x-spec : {M : Type 1} → statement M
 sum-at-x-spec =

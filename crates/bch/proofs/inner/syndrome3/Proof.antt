@@ -1,18 +1,17 @@
 -- `bch::inner::syndrome3` meets its contract: the sum so far, and Horner's rule on the digits left, make the whole. Assumes nothing.
 use native.Mathlib.Omega.{arith}
-use mathlib.Core.Path.{_≡_, refl, subst, sym}
-use Prim.Native.Nat.{ℕ, _<_, _%_, _^_}
-use lib.Bits.{bitXor}
-use Rattle.bch.specs.Field.{horner}
+use mathlib.Core.Path.{refl}
+use Prim.Native.Nat.{_%_}
+use Rattle.ground.proofs.Xor.{odd}
 use Rattle.bch.specs.Search.{timesX3, syn3}
-use Rattle.bch.proofs.Xor.{odd}
-use Rattle.bch.proofs.Field.{x3-additive, digit-lt, horner-next, horner-done}
+use Rattle.bch.proofs.Additive.{x3-additive}
+use Rattle.bch.proofs.Horner.{digit-lt, Summing, sum-next, sum-done}
 use borrow.Author.Needs.{needs}
 use Rattle.bch.proofs.inner.syndrome3.Statement.{statement}
 use Rattle.bch.proofs.inner.syndrome3.Tie as tie
 
 abbrev Inv-loop : tie.InvT-loop
-Inv-loop s sum₀ term₀ rest₀ left₀ sum term rest left = (term < 2 ^ 7) × (bitXor sum (horner timesX3 left term rest) ≡ syn3 s)
+Inv-loop s sum₀ term₀ rest₀ left₀ sum term rest left = Summing timesX3 x3-additive (syn3 s) sum term rest left
 
 abbrev μ-loop : tie.MeasureT-loop
 μ-loop s sum₀ term₀ rest₀ left₀ sum term rest left = left
@@ -40,17 +39,14 @@ loop-less c = search needs
 loop-again : tie.Need-loop-again Inv-loop μ-loop
 loop-again c =
     let l = c .before .before .loop in
-    let z = c .before .before .before .args in (
-      subst (λ (x : ℕ). x < 2 ^ 7) (sym (c .times-x3 .ensures)) (x3-additive .lt (l .term) (l .inv .0)),
-      horner-next timesX3 x3-additive (l .sum) (l .term) (l .rest) (l .left) (syn3 (z .s)) (c .times-x3 .result) (l .inv .0)
-          (c .before .loop-test .taken) (c .times-x3 .ensures) (l .inv .1),
-    )
+    let z = c .before .before .before .args in
+    sum-next timesX3 x3-additive (syn3 (z .s)) (l .sum) (l .term) (l .rest) (l .left) (c .times-x3 .result) (l .inv) (c .before .loop-test .taken) (c .times-x3 .ensures)
 
 returns : tie.Need-returns Inv-loop μ-loop
 returns c =
     let l = c .before .loop in
     let z = c .before .before .args in
-    horner-done timesX3 x3-additive (l .sum) (l .term) (l .rest) (l .left) (syn3 (z .s)) (c .loop-test .left) (l .inv .1)
+    sum-done timesX3 x3-additive (syn3 (z .s)) (l .sum) (l .term) (l .rest) (l .left) (l .inv) (c .loop-test .left)
 
 pub syndrome3-spec : {M : Type 1} → statement M
 syndrome3-spec =

@@ -1,6 +1,6 @@
 -- `bch::inner::times_x` meets its contract: computed at the 128 elements. Assumes nothing.
-use Rattle.bch.proofs.Field.{one-step}
 use borrow.Author.Needs.{needs}
+use Rattle.bch.proofs.Steps.{one-step}
 use Rattle.bch.proofs.inner.times_x.Statement.{statement}
 use Rattle.bch.proofs.inner.times_x.Tie as tie
 

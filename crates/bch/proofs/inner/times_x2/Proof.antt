@@ -1,6 +1,6 @@
 -- `bch::inner::times_x2` meets its contract: computed at the 128 elements. Assumes nothing.
-use Rattle.bch.proofs.Field.{two-steps}
 use borrow.Author.Needs.{needs}
+use Rattle.bch.proofs.Steps.{two-steps}
 use Rattle.bch.proofs.inner.times_x2.Statement.{statement}
 use Rattle.bch.proofs.inner.times_x2.Tie as tie
 

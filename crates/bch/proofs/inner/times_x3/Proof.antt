@@ -1,6 +1,6 @@
 -- `bch::inner::times_x3` meets its contract: computed at the 128 elements. Assumes nothing.
-use Rattle.bch.proofs.Field.{three-steps}
 use borrow.Author.Needs.{needs}
+use Rattle.bch.proofs.Steps.{three-steps}
 use Rattle.bch.proofs.inner.times_x3.Statement.{statement}
 use Rattle.bch.proofs.inner.times_x3.Tie as tie
 

@@ -1,6 +1,6 @@
 -- `bch::inner::times_x4` meets its contract: computed at the 128 elements. Assumes nothing.
-use Rattle.bch.proofs.Field.{four-steps}
 use borrow.Author.Needs.{needs}
+use Rattle.bch.proofs.Steps.{four-steps}
 use Rattle.bch.proofs.inner.times_x4.Statement.{statement}
 use Rattle.bch.proofs.inner.times_x4.Tie as tie
 

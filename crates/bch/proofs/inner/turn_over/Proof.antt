@@ -4,8 +4,8 @@ use mathlib.Core.Path.{refl, sym}
 use Prim.Native.Nat.{_-_}
 use lib.ListN.{getD}
 use lib.Seq.{set-out}
+use Rattle.ground.proofs.Bits.{bits-at}
 use Rattle.bch.specs.Inner.{flip}
-use Rattle.bch.proofs.Digits.{bits-at}
 use borrow.Author.Needs.{needs}
 use Rattle.bch.proofs.inner.turn_over.Statement.{statement}
 use Rattle.bch.proofs.inner.turn_over.Tie as tie

@@ -1,55 +1,37 @@
 -- `replay::line::is_answer` is safe and ends. Assumes nothing.
-use mathlib.Core.Path.{_≡_, refl, sym, ap, _∙_}
-use Prim.Native.Nat.{ℕ, _+_, _-_, _*_, _/_, _%_, _≤_, _<_}
-use native.Mathlib.Omega.{arith}
-use lib.ListN.{length, length-set, take, drop}
+use mathlib.Core.Path.{sym}
 use lib.Seq.{length-take-le}
 use borrow.Author.Needs.{needs}
 use Rattle.replay.proofs.line.is_answer.Statement.{statement}
 use Rattle.replay.proofs.line.is_answer.Tie as tie
-use Rattle.replay.proofs.line.is_answer.Reads as reads
-use Rattle.replay.proofs.line.is_answer.Lts as lts
-use Rattle.replay.proofs.cases.is_met.Reads as is-met-reads
-use Rattle.replay.proofs.line.put_bytes.Reads as put-bytes-reads
-use Rattle.replay.proofs.line.refusal_of.Reads as refusal-of-reads
 
--- src/line.rt:153:9
 refusal-of-requires : tie.Need-refusal-of-requires
 refusal-of-requires c κs = search needs
 
--- src/line.rt:155:64
 slice-aggregate-is-met : tie.Need-slice-aggregate-is-met
 slice-aggregate-is-met c = search needs
 
--- src/line.rt:155:9
 is-met-requires : tie.Need-is-met-requires
 is-met-requires c κs = search needs
 
--- src/line.rt:155:9
 returns : tie.Need-returns
 returns c = search needs
 
--- src/line.rt:157:9
 put-bytes-requires : tie.Need-put-bytes-requires
 put-bytes-requires c κs = search needs
 
--- src/line.rt:158:47
 slice-reshare-prefix-is-met : tie.Need-slice-reshare-prefix-is-met
 slice-reshare-prefix-is-met c = search needs
 
--- src/line.rt:158:47
 slice-aggregate-is-met-2 : tie.Need-slice-aggregate-is-met-2
 slice-aggregate-is-met-2 c = let p = c .before .before .before .put-bytes in sym (length-take-le (p .result) (p .last .1 .0) (p .ensures))
 
--- src/line.rt:158:5
 is-met-requires-2 : tie.Need-is-met-requires-2
 is-met-requires-2 c κs = search needs
 
--- src/line.rt:152:1
 same-length : tie.Need-same-length
 same-length c = search needs
 
--- src/line.rt:152:1
 returns-2 : tie.Need-returns-2
 returns-2 c = search needs
 

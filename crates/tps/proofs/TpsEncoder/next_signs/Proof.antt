@@ -1,7 +1,6 @@
 -- `tps::TpsEncoder::next_signs` meets its contract: the tests are those of the definition. Assumes nothing.
 use mathlib.Core.Path.{sym, _∙_}
-use borrow.Author.Tests.{eq-eqb, ne-eqb}
-use Rattle.bch.proofs.Checking.{not-true, not-false}
+use borrow.Author.Tests.{eq-eqb, ne-eqb, not-true, not-false}
 use borrow.Author.Needs.{needs}
 use Rattle.tps.proofs.TpsEncoder.next_signs.Statement.{statement}
 use Rattle.tps.proofs.TpsEncoder.next_signs.Tie as tie

@@ -2,9 +2,9 @@
 use mathlib.Core.Path.{_≡_, sym, _∙_}
 use mathlib.Core.Bool.{true}
 use lib.ListN.{length}
-use Rattle.bch.specs.Promise.{areBits}
-use Rattle.bch.proofs.Checking.{not-true, not-false}
+use Rattle.ground.specs.Bits.{areBits}
 use Rattle.tps.proofs.Unpacking.{first-not-bit, rest-not-bits, all-bits, unpack-length, unpack-not-bit, unpack-no-word, information-bits, unpack-constellation, unpack-rate, unpack-word}
+use borrow.Author.Tests.{not-true, not-false}
 use borrow.Author.Needs.{needs}
 use Rattle.tps.proofs.TpsWord.unpack.Statement.{statement}
 use Rattle.tps.proofs.TpsWord.unpack.Tie as tie

@@ -1,0 +1,12 @@
+-- `replay::room` meets its contract, by the law on the length of a list of one value. Assumes nothing.
+use mathlib.Core.Path.{sym}
+use Prim.Native.Nat.{ℕ}
+use lib.ListN.{length-replicate}
+use Rattle.replay.proofs.room.Statement.{statement}
+use Rattle.replay.proofs.room.Tie as tie
+
+returns : tie.Need-returns
+returns c = sym (length-replicate {0} {A = ℕ} 786432 0)
+
+pub room-spec : {M : Type 1} → statement M
+room-spec = tie.close (tie.spec returns)

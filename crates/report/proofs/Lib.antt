@@ -1,0 +1,10 @@
+pub mod Writing
+pub mod Decimal
+pub mod Digits
+pub mod Answers
+pub mod Rooms
+pub mod Streaming
+pub mod Held
+pub mod Whole
+pub mod Cutting
+pub mod Facts

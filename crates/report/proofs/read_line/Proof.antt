@@ -1,0 +1,51 @@
+-- `report::read_line` meets its contract: each way out gives what the line says. Assumes nothing.
+use mathlib.Core.Path.{sym, _∙_}
+use borrow.Author.Tests.{not-true, not-false}
+use Rattle.report.proofs.Answers.{line-of-another-length, line-of-no-digits, line-of-digits}
+use borrow.Author.Needs.{needs}
+use Rattle.report.proofs.read_line.Statement.{statement}
+use Rattle.report.proofs.read_line.Tie as tie
+
+returns : tie.Need-returns
+returns c = line-of-another-length (c .before .before .args .line .now) (c .if1 .taken)
+
+all-digits-requires : tie.Need-all-digits-requires
+all-digits-requires c κs = search needs
+
+returns-2 : tie.Need-returns-2
+returns-2 c =
+    line-of-no-digits (c .before .before .before .before .args .line .now) (c .before .before .if1 .left) (sym (c .before .all-digits .ensures) ∙ not-true _ (c .if2 .taken))
+
+bits-of-requires : tie.Need-bits-of-requires
+bits-of-requires c κs = (c .before .before .if1 .left, sym (c .before .all-digits .ensures) ∙ not-false _ (c .if2 .left))
+
+slice-aggregate-unpack : tie.Need-slice-aggregate-unpack
+slice-aggregate-unpack c = search needs
+
+unpack-requires : tie.Need-unpack-requires
+unpack-requires c κs = search needs
+
+returns-3 : tie.Need-returns-3
+returns-3 c =
+    let b = c .before .before in
+    let d = b .before .before in
+    line-of-digits
+    (d .before .before .before .args .line .now)
+    (d .before .if1 .left)
+    (sym (d .all-digits .ensures) ∙ not-false _ (b .before .if2 .left))
+    (b .bits-of .result)
+    (c .unpack .result)
+    (b .bits-of .ensures)
+    (c .unpack .ensures)
+
+pub read-line-spec : {M : Type 1} → statement M
+read-line-spec =
+    tie.close
+    (tie.spec
+    returns
+    all-digits-requires
+    returns-2
+    bits-of-requires
+    slice-aggregate-unpack
+    unpack-requires
+    returns-3)

@@ -1,0 +1,50 @@
+-- `report::stream::put_close` meets its contract: an open line ends, and the closing line stands behind it. Assumes nothing.
+use native.Mathlib.Omega.{arith}
+use borrow.Author.Tests.{eq-eqb, ne-eqb}
+use Rattle.report.specs.Stream.{ended, endText, closeText}
+use Rattle.report.proofs.Writing.{put-then}
+use borrow.Author.Needs.{needs}
+use Rattle.report.proofs.stream.put_close.Statement.{statement}
+use Rattle.report.proofs.stream.put_close.Tie as tie
+
+put-closing-requires : tie.Need-put-closing-requires
+put-closing-requires c κs = search needs
+
+same-length : tie.Need-same-length
+same-length c = search needs
+
+returns : tie.Need-returns
+unfolding closeText
+returns c =
+    let p = c .before .before .put-closing .ensures in
+    simp (eq-eqb _ _ (c .before .before .before .before .if1 .taken)) (p .0, omega (arith, p .1))
+
+end-line-requires : tie.Need-end-line-requires
+end-line-requires c κs = search needs
+
+put-closing-requires-2 : tie.Need-put-closing-requires-2
+put-closing-requires-2 c κs = search needs
+
+same-length-2 : tie.Need-same-length-2
+same-length-2 c = search needs
+
+returns-2 : tie.Need-returns-2
+unfolding closeText ended endText
+returns-2 c =
+    let p = c .before .before .put-closing2 .ensures in
+    let c-line = c .before .before .before .before .before .before in
+    let e = c-line .end-line .ensures in
+    simp (ne-eqb _ _ (c-line .before .before .before .if1 .left))
+    (put-then (e .written) (rw (← e .lines, ← e .refused) (p .0)), omega (arith, e .room, p .1))
+
+pub put-close-spec : {M : Type 1} → statement M
+put-close-spec =
+    tie.close
+    (tie.spec
+    put-closing-requires
+    same-length
+    returns
+    end-line-requires
+    put-closing-requires-2
+    same-length-2
+    returns-2)

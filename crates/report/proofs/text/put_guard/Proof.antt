@@ -1,0 +1,103 @@
+-- `report::text::put_guard` meets its contract: in each case the text is that of the definition. Assumes nothing.
+use native.Mathlib.Omega.{arith}
+use Rattle.report.specs.Text.{guardText}
+use borrow.Author.Needs.{needs}
+use Rattle.report.proofs.text.put_guard.Statement.{statement}
+use Rattle.report.proofs.text.put_guard.Tie as tie
+
+enum-told : tie.Need-enum-told
+enum-told c = search needs
+
+slice-aggregate-put : tie.Need-slice-aggregate-put
+slice-aggregate-put c = search needs
+
+put-requires : tie.Need-put-requires
+put-requires c κs = search needs
+
+enum-told-2 : tie.Need-enum-told-2
+enum-told-2 c = search needs
+
+slice-aggregate-put-2 : tie.Need-slice-aggregate-put-2
+slice-aggregate-put-2 c = search needs
+
+put-requires-2 : tie.Need-put-requires-2
+put-requires-2 c κs = search needs
+
+enum-told-3 : tie.Need-enum-told-3
+enum-told-3 c = search needs
+
+slice-aggregate-put-3 : tie.Need-slice-aggregate-put-3
+slice-aggregate-put-3 c = search needs
+
+put-requires-3 : tie.Need-put-requires-3
+put-requires-3 c κs = search needs
+
+enum-told-4 : tie.Need-enum-told-4
+enum-told-4 c = search needs
+
+slice-aggregate-put-4 : tie.Need-slice-aggregate-put-4
+slice-aggregate-put-4 c = search needs
+
+put-requires-4 : tie.Need-put-requires-4
+put-requires-4 c κs = search needs
+
+same-length : tie.Need-same-length
+same-length c = search needs
+
+returns : tie.Need-returns
+unfolding guardText
+returns c =
+    let p = c .before .before .put .ensures in
+    (rw (c .before .before .before .before .before .enum-told .given .1) p, omega (arith, p .next))
+
+same-length-2 : tie.Need-same-length-2
+same-length-2 c = search needs
+
+returns-2 : tie.Need-returns-2
+unfolding guardText
+returns-2 c =
+    let p = c .before .before .put2 .ensures in
+    (rw (c .before .before .before .before .before .enum-told2 .given .1) p, omega (arith, p .next))
+
+same-length-3 : tie.Need-same-length-3
+same-length-3 c = search needs
+
+returns-3 : tie.Need-returns-3
+unfolding guardText
+returns-3 c =
+    let p = c .before .before .put3 .ensures in
+    (rw (c .before .before .before .before .before .enum-told3 .given .1) p, omega (arith, p .next))
+
+same-length-4 : tie.Need-same-length-4
+same-length-4 c = search needs
+
+returns-4 : tie.Need-returns-4
+unfolding guardText
+returns-4 c =
+    let p = c .before .before .put4 .ensures in
+    (rw (c .before .before .before .before .before .enum-told4 .given .1) p, omega (arith, p .next))
+
+pub put-guard-spec : {M : Type 1} → statement M
+put-guard-spec =
+    tie.close
+    (tie.spec
+    enum-told
+    slice-aggregate-put
+    put-requires
+    enum-told-2
+    slice-aggregate-put-2
+    put-requires-2
+    enum-told-3
+    slice-aggregate-put-3
+    put-requires-3
+    enum-told-4
+    slice-aggregate-put-4
+    put-requires-4
+    same-length
+    returns
+    same-length-2
+    returns-2
+    same-length-3
+    returns-3
+    same-length-4
+    returns-4)

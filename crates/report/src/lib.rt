@@ -1,0 +1,113 @@
+// The report on received TPS words: what a line of digits says, the text of its line, and the whole report of an input that comes in parts of any size.
+ghost use mathlib.Core.Path.{_≡_};
+ghost use lib.ListN.{length};
+ghost use Rattle.report.specs.Reading.{readLine};
+ghost use Rattle.report.specs.Text.{lineText, heading};
+ghost use Rattle.report.specs.Stream.{fresh, textOf, closeText, textAnswer, textLeaves, lineRoom, partRoom, closeRoom, fedOf};
+use ground::Counted;
+use tps::TpsWord;
+use tps::Unpacked;
+
+mod reading;
+mod stream;
+mod text;
+
+// The heading's length in bytes.
+const HEADING_LEN: usize = 34;
+// Room in bytes for every line of the report.
+const LINE_ROOM: usize = 60;
+
+// What the reader holds of the input so far: the open line's first 17 characters, how many it has (18 where they are more), how many lines ended, and how many of
+// those were refused.
+pub struct Reader {
+    pub held: [u8; 17],
+    pub count: usize,
+    pub lines: u64,
+    pub refused: u64,
+}
+
+// How many bytes of text were written, or the refusal, and the reader after the call.
+pub struct Fed {
+    pub answer: Counted,
+    pub reader: Reader,
+}
+
+// What a line says: the word of its 17 digits, or the refusal.
+pub fn read_line(line: &[u8]) -> Unpacked
+    ensures { λ r. ⌜ r ≡ readLine (now (line .entry)) ⌝ }
+{
+    if line.len() != 17 {
+        return Unpacked::Refused(ground::BAD_LINE);
+    }
+    if !reading::all_digits(line) {
+        return Unpacked::Refused(ground::BAD_LINE);
+    }
+    let bits = reading::bits_of(line);
+    TpsWord::unpack(&bits)
+}
+
+// Writes the report's heading.
+pub fn put_heading(out: &mut [u8]) -> Counted
+    ensures answer { λ r. ⌜ r ≡ textAnswer (length heading) heading (now (out .entry)) ⌝ }
+    ensures output { λ _. ⌜ now (out .exit) ≡ textLeaves (length heading) heading (now (out .entry)) ⌝ }
+{
+    if out.len() < HEADING_LEN {
+        return Counted::Refused(ground::OUTPUT_SHORT);
+    }
+    Counted::Count(text::put(out, 0, b"line frame points rate guard cell\n"))
+}
+
+// Writes the line of the report for a line's number and its answer.
+pub fn put_line(number: u64, answer: Unpacked, out: &mut [u8]) -> Counted
+    ensures answer { λ r. ⌜ r ≡ textAnswer lineRoom (lineText number answer) (now (out .entry)) ⌝ }
+    ensures output { λ _. ⌜ now (out .exit) ≡ textLeaves lineRoom (lineText number answer) (now (out .entry)) ⌝ }
+{
+    if out.len() < LINE_ROOM {
+        return Counted::Refused(ground::OUTPUT_SHORT);
+    }
+    Counted::Count(text::put_answer(out, 0, number, answer))
+}
+
+impl Reader {
+    // A reader at the beginning of the input.
+    pub fn new() -> Self
+        ensures { λ r. ⌜ r ≡ fresh ⌝ }
+    {
+        Self {
+            held: [0u8; 17],
+            count: 0,
+            lines: 0,
+            refused: 0,
+        }
+    }
+
+    // Takes a part of the input, and writes the lines of the report for the lines that end in it.
+    pub fn feed(self, part: &[u8], out: &mut [u8]) -> Fed
+        ensures answer { λ r. ⌜ r ≡ fedOf self (now (part .entry)) (now (out .entry)) ⌝ }
+        ensures output { λ _. ⌜ now (out .exit) ≡ textLeaves (partRoom (now (part .entry))) (textOf self (now (part .entry))) (now (out .entry)) ⌝ }
+    {
+        if out.len() / LINE_ROOM < part.len() {
+            return Fed {
+                answer: Counted::Refused(ground::OUTPUT_SHORT),
+                reader: self,
+            };
+        }
+        let taken = stream::take(self, part, out);
+        let reader = taken.reader;
+        Fed {
+            answer: Counted::Count(taken.at),
+            reader,
+        }
+    }
+
+    // Ends the input: writes the line of a line that is open there, and the closing line.
+    pub fn close(self, out: &mut [u8]) -> Counted
+        ensures answer { λ r. ⌜ r ≡ textAnswer closeRoom (closeText self) (now (out .entry)) ⌝ }
+        ensures output { λ _. ⌜ now (out .exit) ≡ textLeaves closeRoom (closeText self) (now (out .entry)) ⌝ }
+    {
+        if out.len() < 2 * LINE_ROOM {
+            return Counted::Refused(ground::OUTPUT_SHORT);
+        }
+        Counted::Count(stream::put_close(self, out))
+    }
+}

@@ -1,0 +1,120 @@
+//! The stored answers of symbols and of the receive session: extract, mapped and session. Symbols come of a rule, so that none is stored.
+
+use crate::points::pattern;
+use crate::store_tps::received;
+use crate::{Lines, patterns, turned_floats};
+use num_complex::Complex32;
+use orion_sdr::waveform::dvb_t::{GuardInterval, ScatteredPilotExtractor, ScatteredPilotMapper, tps_carrier_bins};
+
+/// Cells of a symbol.
+const SYMBOL: usize = 2048;
+/// Data cells of a symbol.
+const DATA: usize = 1512;
+/// The byte of a script that steps back; a lower one feeds the symbol of its number.
+const STEP_BACK: u8 = 254;
+/// The byte of a script that resets.
+const RESET: u8 = 255;
+
+/// Symbol k by the rule: float j is 4096 k + j, with a minus where k leaves 1 on division by 3.
+fn ruled(number: u8) -> Vec<Complex32> {
+    let float = |place: usize| (4096 * usize::from(number) + place) as f32 * if number % 3 == 1 { -1.0 } else { 1.0 };
+    (0..SYMBOL).map(|bin| Complex32::new(float(2 * bin), float(2 * bin + 1))).collect()
+}
+
+/// The bins that cells of a symbol by the rule come from, two bytes each.
+fn bins(number: u8, cells: &[Complex32]) -> Vec<u8> {
+    let symbol = ruled(number);
+    let bin = |cell: &Complex32| symbol.iter().position(|other| other == cell).expect("a cell of the symbol") as u16;
+    cells.iter().flat_map(|cell| bin(cell).to_be_bytes()).collect()
+}
+
+/// The data cells of the last of some symbols, as an extractor reads them one after another, and its phase at the last.
+fn extracted(numbers: &[u8]) -> (u8, Vec<Complex32>) {
+    let mut extractor = ScatteredPilotExtractor::new(GuardInterval::G1_32);
+    let (mut phase, mut data) = (0, vec![Complex32::default(); DATA]);
+    for number in numbers {
+        phase = extractor.phase() as u8;
+        extractor.extract_symbol(&ruled(*number), &mut data);
+    }
+    (phase, data)
+}
+
+/// Symbol p in phase p, and two with a bit of a bin turned.
+pub fn extract(lines: &mut Lines) {
+    let answer = |phase: u8| bins(phase, &extracted(&(0..=phase).collect::<Vec<_>>()).1);
+    for phase in 0..4 {
+        lines.answer("extract", usize::from(phase), &[], Some(&answer(phase)));
+    }
+    for (phase, bit) in [(1, 15), (3, 16 * DATA - 1)] {
+        lines.turned("extract", usize::from(phase), &[], &answer(phase), bit);
+    }
+}
+
+/// The symbol of phase p whose data cells are the first cells of symbol 0 by the rule, and one with a pilot's sign turned.
+pub fn mapped(lines: &mut Lines) {
+    let mut mapper = ScatteredPilotMapper::new(GuardInterval::G1_32);
+    for phase in 0..4 {
+        let mut symbol = vec![Complex32::new(f32::NAN, f32::NAN); SYMBOL];
+        mapper.map_symbol(&ruled(0)[..DATA], &mut symbol);
+        let floats: Vec<f32> = symbol.iter().flat_map(|cell| [cell.re, cell.im]).collect();
+        lines.answer("mapped", phase, &[], Some(&patterns(&floats, pattern)));
+        if phase == 2 {
+            turned_floats(lines, "mapped", phase, &[], &floats, 64 * tps_carrier_bins()[5]);
+        }
+    }
+}
+
+/// The symbols that stand behind a script.
+fn standing(script: &[u8]) -> Vec<u8> {
+    let mut symbols = vec![];
+    for call in script {
+        match *call {
+            RESET => symbols.clear(),
+            STEP_BACK => drop(symbols.pop()),
+            number => symbols.push(number),
+        }
+    }
+    symbols
+}
+
+/// What orion-sdr's extractor and decoder give, each run afresh on symbols: the phase in which the last is read, its bit, its data's bins, all bits.
+fn afresh(to_extract: &[u8], to_decode: &[u8]) -> Vec<u8> {
+    let last = *to_extract.last().expect("a symbol that stands");
+    let (phase, data) = extracted(to_extract);
+    let tps = to_decode.iter().map(|number| tps_carrier_bins().map(|bin| ruled(*number)[bin])).collect::<Vec<_>>();
+    let bits = received(&tps);
+    let mut answer = vec![phase, *bits.last().expect("a symbol that stands")];
+    answer.extend(bins(last, &data));
+    answer.extend(bits);
+    answer
+}
+
+/// Scripts that end with a feed: feeds alone, steps back, resets, steps back where none stands, and up to 68 symbols.
+fn scripts() -> Vec<Vec<u8>> {
+    let mut scripts: Vec<Vec<u8>> = [
+        &[0][..], &[1], &[0, 1], &[0, 1, 2, 3, 4], &[0, STEP_BACK, 1], &[STEP_BACK, 2], &[0, 1, STEP_BACK, 2], &[0, 1, 2, STEP_BACK, 3],
+        &[0, 1, 2, STEP_BACK, STEP_BACK, 4], &[5, 7, STEP_BACK, STEP_BACK, STEP_BACK, 9, 10], &[0, 1, 2, RESET, 4, 5],
+        &[0, 1, RESET, STEP_BACK, 3, 4, STEP_BACK, 6, 7, 9],
+    ].map(<[u8]>::to_vec).to_vec();
+    scripts.push((100..168).collect());
+    scripts.push((0..68).chain([STEP_BACK; 3]).chain(70..72).chain([STEP_BACK, 253]).collect());
+    scripts
+}
+
+/// The scripts; then the fault of June, a feed behind a step back read in the phase of the symbol that was taken back, whole and by its parts.
+pub fn session(lines: &mut Lines) {
+    for script in scripts() {
+        let symbols = standing(&script);
+        lines.answer("session", 0, &script, Some(&afresh(&symbols, &symbols)));
+    }
+    let script = [0, 1, STEP_BACK, 2];
+    let right = afresh(&[0, 2], &[0, 2]);
+    let phase_kept = afresh(&[0, 1, 2], &[0, 2]);
+    let cells_kept = afresh(&[0, 2], &[1, 2]);
+    let data_only = [&right[..2], &phase_kept[2..]].concat();
+    assert!(right[0] == 1 && phase_kept[0] == 2 && right[2..] != phase_kept[2..] && right[1] == 0 && cells_kept[1] == 1);
+    for wrong in [phase_kept, data_only, cells_kept] {
+        lines.answer("~session", 0, &script, Some(&wrong));
+    }
+    lines.turned("session", 0, &script, &right, 8 * (2 + 2 * DATA) + 7);
+}
