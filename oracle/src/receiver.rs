@@ -68,7 +68,9 @@ impl Step {
         match self {
             Step::Reset => "reset".to_string(),
             Step::Feed(floats) => format!("feed_symbol of {} f32: {}", floats.len(), list(floats)),
-            Step::Bits(room) => format!("bits, with as much missing or over as {} bytes have of 68", room.size(WORD)),
+            Step::Bits(Room::Exact) => "bits".to_string(),
+            Step::Bits(Room::Longer(surplus)) => format!("bits, {surplus} bytes over"),
+            Step::Bits(Room::Short(missing)) => format!("bits, {} bytes missing", missing.min(&WORD)),
             Step::Hand { count, one } => {
                 format!("handed in with count {count} where 68 stand, cells of {HANDED:?} where none does, and {one} for each bit of 1")
             }
@@ -83,7 +85,7 @@ struct Seen {
     bit: u8,
     /// What a call for the bits counted, and all of its output.
     told: Option<(usize, Vec<u8>)>,
-    /// Whether a refusal, or a call for the bits, left the receiver as it went in.
+    /// Whether a refusal left the receiver as it went in.
     kept: bool,
     count: usize,
     /// The bits, one above 1 as 1, and 0 where none stands.
