@@ -42,7 +42,7 @@ enum {
     SALT_FULL = 6,         /* a symbol is fed when 68 stand */
     SALT_EMPTY = 7,        /* a step back when none stands */
     SALT_INCOMPLETE = 8,   /* a word is asked for with fewer than 68 */
-    SALT_BAD_LINE = 9      /* a line of the report program's input isn't 17 digits from 0-9 and a-f; no function here gives it */
+    SALT_BAD_LINE = 9      /* a line of the report's input isn't 17 digits from 0-9 and a-f */
 };
 
 /* ---- sizes */
@@ -74,6 +74,11 @@ enum {
 #define SALT_TPS_WORD_BITS 68        /* a zero bit s0 and the codeword; the symbols of a frame are as many */
 #define SALT_JOURNAL_FLOATS 2312     /* a session's journal: the TPS cells of 68 symbols */
 
+#define SALT_LINE_DIGITS 17          /* a line of the report's input: the 68 bits of a word, four a digit */
+#define SALT_HEADING_BYTES 34        /* the report's heading */
+#define SALT_LINE_ROOM 60            /* room for every line of the report */
+#define SALT_CLOSE_ROOM 120          /* room for the report's end */
+
 /* ---- answers that more than one group has */
 
 /* A count, or a refusal's number and the count 0. */
@@ -87,6 +92,9 @@ typedef struct SaltCell {
     float re;
     float im;
 } SaltCell;
+
+/* 1 where both parts of two cells have the same bits, any NaN counting as any other; else 0. */
+uint8_t salt_cell_same(SaltCell cell, SaltCell other);
 
 /* A cell, or a refusal's number and the cell +0.0, +0.0. */
 typedef struct SaltMapped {
@@ -546,6 +554,71 @@ size_t salt_session_phase(SaltSession session);
  * Refusals: 8 INCOMPLETE, 4 NO WORD, 5 RESERVED.
  */
 SaltUnpacked salt_session_word(SaltSession session);
+
+/*
+ * The session after a script of calls on a new one, each with the same output and journal: the byte 255 resets, 254 steps back, and a lower byte k feeds
+ * symbol k of the symbols in a row, 4,096 floats each. A call that is refused changes nothing, and the script goes on.
+ */
+SaltSession salt_session_run(const uint8_t *script, size_t script_length, const float *symbols, size_t symbols_length, float *out, size_t out_length,
+                             float *journal, size_t journal_length);
+
+/* ---- the report */
+
+/*
+ * A report on received words. Its input is lines, each a word in 17 hexadecimal digits of lower case, the first digit's high bit s0; its output is text: a
+ * heading, a line for each line of the input, numbered from 1 on, and a closing line with the counts of lines and of refused lines. A line ends at a
+ * newline or the end of the input; an empty line counts, and no line follows a final newline. In whatever parts the input is fed, the report is the same.
+ */
+
+/*
+ * What is held of the input so far: the open line's first 17 characters, how many it has, 18 where they are more, how many lines ended, and how many of
+ * those were refused; behind 2^64 - 1 a count starts again. Of a reader that is made by hand a count above 17 is read as 18.
+ */
+typedef struct SaltReader {
+    uint8_t held[SALT_LINE_DIGITS];
+    size_t count;
+    uint64_t lines;
+    uint64_t refused;
+} SaltReader;
+
+/* The bytes written or the refusal, and the reader behind the part or, refused, as it went in. */
+typedef struct SaltReaderFed {
+    SaltCounted answer;
+    SaltReader reader;
+} SaltReaderFed;
+
+/*
+ * The word that a line says, given without its newline, with up to two wrong bits mended; s0 is ignored.
+ * Refusals: 9 BAD LINE, 4 NO WORD, 5 RESERVED.
+ */
+SaltUnpacked salt_read_line(const uint8_t *line, size_t line_length);
+
+/*
+ * Writes the heading, `line frame points rate guard cell` and a newline. Answers 34.
+ * Refusals: 3 OUTPUT SHORT.
+ */
+SaltCounted salt_put_heading(uint8_t *out, size_t out_length);
+
+/*
+ * Writes the report's line for a line's number and its answer: a word where the answer's number is 0, else that refusal. Answers the bytes written.
+ * Refusals: 3 OUTPUT SHORT (room for fewer than 60), 5 RESERVED (a word whose constellation is above 2, rate above 4 or guard above 3).
+ */
+SaltCounted salt_put_line(uint64_t number, SaltUnpacked answer, uint8_t *out, size_t out_length);
+
+/* A reader at the start of the input. */
+SaltReader salt_reader_new(void);
+
+/*
+ * Takes a part of the input, of any size, and writes the report's lines for the lines that end in it. Answers the bytes written.
+ * Refusals: 3 OUTPUT SHORT (room for fewer than 60 a byte of the part).
+ */
+SaltReaderFed salt_reader_feed(SaltReader reader, const uint8_t *part, size_t part_length, uint8_t *out, size_t out_length);
+
+/*
+ * Ends the input: writes the report's line for a line that is open there, and the closing line. Answers the bytes written.
+ * Refusals: 3 OUTPUT SHORT (room for fewer than 120).
+ */
+SaltCounted salt_reader_close(SaltReader reader, uint8_t *out, size_t out_length);
 
 #ifdef __cplusplus
 }

@@ -19,6 +19,12 @@ fn floats_mut(cells: &mut [Complex32]) -> (*mut f32, usize) {
     (cells.as_mut_ptr().cast(), 2 * cells.len())
 }
 
+// ---- cells
+
+pub fn cell_same(cell: SaltCell, other: SaltCell) -> u8 {
+    unsafe { salt_cell_same(cell, other) }
+}
+
 // ---- transport packets
 
 pub fn ts_packetize(payload: &[u8], out: &mut [u8]) -> SaltCounted {
@@ -274,4 +280,35 @@ pub fn session_phase(session: SaltSession) -> usize {
 
 pub fn session_word(session: SaltSession) -> SaltUnpacked {
     unsafe { salt_session_word(session) }
+}
+
+pub fn session_run(script: &[u8], symbols: &[Complex32], out: &mut [Complex32], journal: &mut [f32]) -> SaltSession {
+    let ((symbols, symbols_length), (out, out_length)) = (floats(symbols), floats_mut(out));
+    unsafe { salt_session_run(script.as_ptr(), script.len(), symbols, symbols_length, out, out_length, journal.as_mut_ptr(), journal.len()) }
+}
+
+// ---- the report
+
+pub fn read_line(line: &[u8]) -> SaltUnpacked {
+    unsafe { salt_read_line(line.as_ptr(), line.len()) }
+}
+
+pub fn put_heading(out: &mut [u8]) -> SaltCounted {
+    unsafe { salt_put_heading(out.as_mut_ptr(), out.len()) }
+}
+
+pub fn put_line(number: u64, answer: SaltUnpacked, out: &mut [u8]) -> SaltCounted {
+    unsafe { salt_put_line(number, answer, out.as_mut_ptr(), out.len()) }
+}
+
+pub fn reader_new() -> SaltReader {
+    unsafe { salt_reader_new() }
+}
+
+pub fn reader_feed(reader: SaltReader, part: &[u8], out: &mut [u8]) -> SaltReaderFed {
+    unsafe { salt_reader_feed(reader, part.as_ptr(), part.len(), out.as_mut_ptr(), out.len()) }
+}
+
+pub fn reader_close(reader: SaltReader, out: &mut [u8]) -> SaltCounted {
+    unsafe { salt_reader_close(reader, out.as_mut_ptr(), out.len()) }
 }

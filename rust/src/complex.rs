@@ -1,5 +1,6 @@
 //! A carrier's value.
 
+use crate::call;
 use crate::sys::SaltCell;
 
 /// A carrier's value, two f32; num-complex's `Complex32` has the same layout.
@@ -24,6 +25,19 @@ impl Complex32 {
     /// The value with these two parts.
     pub const fn new(re: f32, im: f32) -> Self {
         Self { re, im }
+    }
+
+    /// Whether both parts have the same bits, any NaN counting as any other. `==` has 0.0 equal to -0.0, and a NaN to nothing.
+    ///
+    /// ```
+    /// use saltkernel::Complex32;
+    ///
+    /// let cell = Complex32::new(f32::NAN, 0.0);
+    /// assert!(cell.same(cell) && cell != cell);
+    /// assert!(!cell.same(Complex32::new(f32::NAN, -0.0)));
+    /// ```
+    pub fn same(self, other: Self) -> bool {
+        call::cell_same(self.into(), other.into()) == 1
     }
 }
 

@@ -1,5 +1,5 @@
 //! The DVB-T 2K waveform layer of a bench analyser: transport packets, energy dispersal, Gray mapping, the pilot grid, TPS
-//! (ETSI EN 300 744, 4.3 to 4.6), and a receive session that steps back.
+//! (ETSI EN 300 744, 4.3 to 4.6), a receive session that steps back, and a report on received words.
 //!
 //! The work is done by a library that is proved, for all inputs, to do what document 01 says; this crate is a safe cover over its C interface
 //! and has no dependencies. Functions take slices and give a `Result` whose error is a [`Refusal`]; a refused call changes nothing.
@@ -74,6 +74,7 @@ mod frames;
 mod packets;
 mod pilots;
 mod refusal;
+pub mod report;
 pub mod session;
 mod symbols;
 mod words;

@@ -34,7 +34,7 @@ pub enum Refusal {
     Empty = 7,
     /// A word is asked for with fewer than 68.
     Incomplete = 8,
-    /// A line of the report program's input isn't 17 digits from 0-9 and a-f; no function of this crate gives it.
+    /// A line of the report's input isn't 17 digits from 0-9 and a-f.
     BadLine = 9,
 }
 

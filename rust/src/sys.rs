@@ -24,6 +24,10 @@ pub struct SaltMapped {
     pub point: SaltCell,
 }
 
+extern "C" {
+    pub fn salt_cell_same(cell: SaltCell, other: SaltCell) -> u8;
+}
+
 // ---- transport packets
 
 #[repr(C)]
@@ -312,4 +316,41 @@ extern "C" {
     pub fn salt_session_step_back(session: SaltSession, journal: *const f32, journal_length: usize) -> SaltSessionStepped;
     pub fn salt_session_phase(session: SaltSession) -> usize;
     pub fn salt_session_word(session: SaltSession) -> SaltUnpacked;
+    pub fn salt_session_run(
+        script: *const u8,
+        script_length: usize,
+        symbols: *const f32,
+        symbols_length: usize,
+        out: *mut f32,
+        out_length: usize,
+        journal: *mut f32,
+        journal_length: usize,
+    ) -> SaltSession;
+}
+
+// ---- the report
+
+#[repr(C)]
+#[derive(Clone, Copy, Debug)]
+pub struct SaltReader {
+    pub held: [u8; 17],
+    pub count: usize,
+    pub lines: u64,
+    pub refused: u64,
+}
+
+#[repr(C)]
+#[derive(Clone, Copy)]
+pub struct SaltReaderFed {
+    pub answer: SaltCounted,
+    pub reader: SaltReader,
+}
+
+extern "C" {
+    pub fn salt_read_line(line: *const u8, line_length: usize) -> SaltUnpacked;
+    pub fn salt_put_heading(out: *mut u8, out_length: usize) -> SaltCounted;
+    pub fn salt_put_line(number: u64, answer: SaltUnpacked, out: *mut u8, out_length: usize) -> SaltCounted;
+    pub fn salt_reader_new() -> SaltReader;
+    pub fn salt_reader_feed(reader: SaltReader, part: *const u8, part_length: usize, out: *mut u8, out_length: usize) -> SaltReaderFed;
+    pub fn salt_reader_close(reader: SaltReader, out: *mut u8, out_length: usize) -> SaltCounted;
 }

@@ -139,20 +139,24 @@ impl TpsWord {
 
     /// [`pack`](Self::pack) into a lent output; gives 68, or [`Refusal::OutputShort`].
     pub fn pack_into(self, out: &mut [u8]) -> Result<usize, Refusal> {
-        let codes = SaltTpsWord {
-            frame_number: self.frame_number,
-            constellation: self.constellation as u8,
-            code_rate_hp: self.code_rate_hp as u8,
-            guard: self.guard as u8,
-            cell_id: self.cell_id,
-        };
-        count_of(call::tps_word_pack(codes, out))
+        count_of(call::tps_word_pack(codes_of(self), out))
     }
 
     /// The word that 68 received bits s0 to s67 say, with up to two wrong bits mended; s0 is ignored. Refusals: [`Refusal::Length`],
     /// [`Refusal::NotABit`], [`Refusal::NoWord`], then [`Refusal::Reserved`].
     pub fn unpack(bits: &[u8]) -> Result<Self, Refusal> {
         word_of(call::tps_word_unpack(bits))
+    }
+}
+
+/// The codes of a word.
+pub(crate) fn codes_of(word: TpsWord) -> SaltTpsWord {
+    SaltTpsWord {
+        frame_number: word.frame_number,
+        constellation: word.constellation as u8,
+        code_rate_hp: word.code_rate_hp as u8,
+        guard: word.guard as u8,
+        cell_id: word.cell_id,
     }
 }
 

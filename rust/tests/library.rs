@@ -3,6 +3,7 @@
 use saltkernel::fec::PunctureRate;
 use saltkernel::modulate::ConstellationOrder;
 use saltkernel::multicarrier::*;
+use saltkernel::report::{put_heading, put_line, read_line, Reader, CLOSE_ROOM, HEADING_BYTES, LINE_ROOM};
 use saltkernel::session::Session;
 use saltkernel::waveform::dvb_t::*;
 use saltkernel::waveform::dvb_t_tps::*;
@@ -302,4 +303,58 @@ fn a_session_steps_back_to_where_it_was() {
     }
     session.reset();
     assert_eq!((session.step_back(), copy.word()), (Err(Refusal::Empty), Ok(WORD)));
+}
+
+#[test]
+fn a_script_runs_as_its_calls() {
+    let symbols = cells(3 * 2048);
+    let mut session = Session::new();
+    let mut out = vec![ZERO; 1512];
+    for symbol in [0, 1, 2] {
+        session.feed(&symbols[2048 * symbol..], &mut out).unwrap();
+    }
+    session.step_back().unwrap();
+    let run = Session::run(&[1, 255, 254, 0, 3, 1, 2, 254], &symbols);
+    assert_eq!((run.bits(), run.phase()), (session.bits(), 2));
+    assert_eq!(format!("{run:?}"), format!("{session:?}"));
+    assert_eq!(Session::run(&[], &[]).bits(), []);
+}
+
+/// The line of a word.
+fn line_of(word: TpsWord) -> Vec<u8> {
+    word.pack().chunks(4).map(|bits| b"0123456789abcdef"[bits.iter().fold(0, |digit, bit| 2 * digit + usize::from(*bit))]).collect()
+}
+
+#[test]
+fn lines_are_read_and_written() {
+    let mut out = [b'.'; LINE_ROOM];
+    let line = line_of(WORD);
+    assert_eq!(read_line(&line), Ok(WORD));
+    assert_eq!(read_line(&line[1..]), Err(Refusal::BadLine));
+    assert_eq!(read_line(&line.to_ascii_uppercase()), Err(Refusal::BadLine));
+    assert_eq!(put_line(7, Ok(WORD), &mut out[1..]), Err(Refusal::OutputShort));
+    assert_eq!(out, [b'.'; LINE_ROOM]);
+    let text = b"18446744073709551615 3 16 7/8 1/16 c3\n";
+    assert_eq!(put_line(u64::MAX, Ok(WORD), &mut out), Ok(text.len()));
+    assert_eq!(&out[..text.len()], text);
+    for refusal in Refusal::ALL {
+        let count = put_line(1, Err(refusal), &mut out).unwrap();
+        assert_eq!(out[..count], *format!("1 refused {}\n", refusal.number()).as_bytes());
+    }
+    assert_eq!(put_heading(&mut out[..HEADING_BYTES - 1]), Err(Refusal::OutputShort));
+    assert_eq!(put_heading(&mut out), Ok(HEADING_BYTES));
+}
+
+#[test]
+fn a_report_is_the_same_in_all_parts() {
+    let input = [&line_of(WORD)[..], b"\n\n", &[b'0'; 200], b"\n", &[b'0'; 17]].concat();
+    let whole = b"1 3 16 7/8 1/16 c3\n2 refused 9\n3 refused 9\n4 0 4 1/2 1/32 00\nread 4 refused 2\n";
+    for size in 1..=input.len() {
+        let mut reader = Reader::new();
+        let mut report: Vec<u8> = input.chunks(size).flat_map(|part| reader.feed(part)).collect();
+        assert_eq!(reader.feed_into(b"\n", &mut [0; LINE_ROOM - 1]), Err(Refusal::OutputShort));
+        assert_eq!(reader.close_into(&mut [0; CLOSE_ROOM - 1]), Err(Refusal::OutputShort));
+        report.extend(reader.close());
+        assert_eq!(report, whole);
+    }
 }

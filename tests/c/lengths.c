@@ -2,6 +2,7 @@
 #include "check.h"
 
 #include <stdio.h>
+#include <string.h>
 
 enum { MOST_SLICES = 3, LENGTHS = 5 };
 
@@ -92,6 +93,30 @@ static uint8_t session_step_back(const Lent *lent) {
     return salt_session_step_back(session, AT(0)).number;
 }
 
+/* A script's session has no number: 1 where a symbol that was fed doesn't stand. */
+static uint8_t run_one(const Lent *lent) {
+    const uint8_t script = 0;
+    return salt_session_run(&script, 1, AT(0), AT(1), AT(2)).count != 1;
+}
+static uint8_t run_all(const Lent *lent) {
+    static float symbol[SALT_SYMBOL_FLOATS], out[SALT_DATA_FLOATS], journal[SALT_JOURNAL_FLOATS];
+    return salt_session_run(AT(0), symbol, SALT_SYMBOL_FLOATS, out, SALT_DATA_FLOATS, journal, SALT_JOURNAL_FLOATS).count != lent->length;
+}
+
+/* Functions of the report. A line is of digits. */
+static uint8_t read_line(const Lent *lent) {
+    memset(lent->at, '0', lent->length);
+    memset(lent->was, '0', lent->length);
+    return salt_read_line(AT(0)).number;
+}
+static uint8_t put_heading(const Lent *lent) { return salt_put_heading(AT(0)).number; }
+static uint8_t put_line(const Lent *lent) {
+    const SaltUnpacked answer = {0, word};
+    return salt_put_line(1, answer, AT(0)).number;
+}
+static uint8_t reader_feed(const Lent *lent) { return salt_reader_feed(salt_reader_new(), AT(0), AT(1)).answer.number; }
+static uint8_t reader_close(const Lent *lent) { return salt_reader_close(salt_reader_new(), AT(0)).number; }
+
 static const Function functions[] = {
     {"ts_packetize", packetize, {{1, 187, READ, GROWS}, {1, 188, FRONT, OUTPUT}}},
     {"ts_depacketize", depacketize, {{1, 188, READ, ONE_LENGTH}, {1, 187, FRONT, OUTPUT}}},
@@ -128,6 +153,13 @@ static const Function functions[] = {
     {"TpsDecoder::bits, 68", bits_of_frame, {{1, SALT_TPS_WORD_BITS, FRONT, OUTPUT}}},
     {"Session::feed", session_feed, {{4, SALT_SYMBOL_FLOATS, READ, AT_LEAST}, {4, SALT_DATA_FLOATS, FRONT, OUTPUT}, {4, SALT_JOURNAL_FLOATS, FRONT, OUTPUT}}},
     {"Session::step_back", session_step_back, {{4, SALT_JOURNAL_FLOATS, READ, OUTPUT}}},
+    {"script::run, one feed", run_one, {{4, SALT_SYMBOL_FLOATS, READ, AT_LEAST}, {4, SALT_DATA_FLOATS, FRONT, AT_LEAST}, {4, SALT_JOURNAL_FLOATS, FRONT, AT_LEAST}}},
+    {"script::run, the script", run_all, {{1, 5, READ, ANY}}},
+    {"read_line", read_line, {{1, SALT_LINE_DIGITS, READ, {SALT_BAD_LINE, SALT_BAD_LINE, SALT_BAD_LINE, SALT_ACCEPTED, SALT_BAD_LINE}}}},
+    {"put_heading", put_heading, {{1, SALT_HEADING_BYTES, FRONT, OUTPUT}}},
+    {"put_line", put_line, {{1, SALT_LINE_ROOM, FRONT, OUTPUT}}},
+    {"Reader::feed", reader_feed, {{1, 2, READ, GROWS}, {1, 2 * SALT_LINE_ROOM, FRONT, OUTPUT}}},
+    {"Reader::close", reader_close, {{1, SALT_CLOSE_ROOM, FRONT, OUTPUT}}},
 };
 
 /* From which item on a slice must be as it was. */

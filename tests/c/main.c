@@ -10,7 +10,7 @@ static const struct {
     {"packets", test_packets}, {"whitener", test_whitener}, {"constellation", test_constellation},
     {"pilots", test_pilots},   {"symbols", test_symbols},   {"codes", test_codes},
     {"words", test_words},     {"frames", test_frames},     {"session", test_session},
-    {"lengths", test_lengths},
+    {"reports", test_reports}, {"lengths", test_lengths},
 };
 
 int main(void) {

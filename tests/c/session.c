@@ -1,6 +1,7 @@
 /* The receive session. */
 #include "check.h"
 
+#include <math.h>
 #include <string.h>
 
 static const SaltTpsWord word = {2, 2, 1, 3, 0x7E};
@@ -89,11 +90,28 @@ static void full(Lent *journal) {
     CHECK(same_session(&session, &before[0]));
 }
 
+/* A script is its calls in turn: what is fed before a reset or taken back doesn't stand, and a refused call changes nothing. */
+static void run_script(Lent *journal) {
+    static const uint8_t script[] = {1, 255, 254, 0, 1, 2, 254, 253};
+    float out[SALT_DATA_FLOATS];
+    SaltSession session = salt_session_run(script, sizeof script, symbols[0], 3 * SALT_SYMBOL_FLOATS, out, SALT_DATA_FLOATS, journal->at, journal->length);
+    CHECK(same_session(&session, &before[2]));
+}
+
+/* Cells are the same by their bits, any NaN counting as any other. */
+static void same_cells(void) {
+    const SaltCell zero = {0.0f, 0.0f}, minus = {0.0f, -0.0f}, nan = {NAN, 1.0f}, other = {-NAN, 1.0f};
+    CHECK(salt_cell_same(zero, zero) == 1 && salt_cell_same(zero, minus) == 0);
+    CHECK(salt_cell_same(nan, other) == 1 && salt_cell_same(nan, zero) == 0 && salt_cell_same(zero, nan) == 0);
+}
+
 void test_session(void) {
     Lent journal = lend(SALT_JOURNAL_FLOATS, sizeof(float));
     make_symbols();
     feed_all(&journal);
     back_to_the_start(&journal);
     full(&journal);
+    run_script(&journal);
+    same_cells();
     give_back(&journal);
 }

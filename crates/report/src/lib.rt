@@ -19,6 +19,7 @@ const LINE_ROOM: usize = 60;
 
 // What the reader holds of the input so far: the open line's first 17 characters, how many it has (18 where they are more), how many lines ended, and how many of
 // those were refused.
+#[repr(C)]
 pub struct Reader {
     pub held: [u8; 17],
     pub count: usize,

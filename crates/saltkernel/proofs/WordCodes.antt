@@ -1,4 +1,4 @@
--- The codes of a word over the C interface: what packing answers and leaves on each way out, and that the codes of a word say the word. Assumes nothing.
+-- The codes of a word over the C interface: what a call that takes codes answers and leaves on each way out, and that the codes of a word say the word. Assumes nothing.
 use mathlib.Core.Path.{_≡_, refl, sym, ap, _∙_}
 use mathlib.Core.Bool.{Bool, true, false}
 use mathlib.Core.List.{List}
@@ -7,7 +7,7 @@ use lib.Dec.{ltb}
 use lib.ListN.{length}
 use borrow.Author.Tests.{lt-ltb, le-ltb}
 use Rattle.ground.specs.Refusal.{ACCEPTED, OUTPUT-SHORT, RESERVED}
-use Rattle.ground.specs.Answer.{pick, counted, kept, written}
+use Rattle.ground.specs.Answer.{pick, counted, kept}
 use Rattle.tps.specs.declared.ConstellationOrder.{ConstellationOrder}
 use Rattle.tps.specs.declared.ConstellationOrder.the-variants.{Qpsk, Qam16, Qam64}
 use Rattle.tps.specs.declared.PunctureRate.{PunctureRate}
@@ -15,32 +15,28 @@ use Rattle.tps.specs.declared.PunctureRate.the-variants.{«R1_2», «R2_3», «
 use Rattle.tps.specs.declared.GuardInterval.{GuardInterval}
 use Rattle.tps.specs.declared.GuardInterval.the-variants.{«G1_32», «G1_16», «G1_8», «G1_4»}
 use Rattle.tps.specs.declared.TpsWord.{TpsWord}
-use Rattle.tps.specs.Word.{constellationCode, rateCode, guardCode, wordBits}
-use Rattle.tps.specs.Promise as Promise
-use Rattle.saltkernel.specs.declared.words.SaltTpsWord.{SaltTpsWord}
-use Rattle.saltkernel.specs.Words.{constellationOf, rateOf, guardOf, wordOf, codesOf, reserved, packNo, packLeaves}
+use Rattle.tps.specs.Word.{constellationCode, rateCode, guardCode}
+use Rattle.saltkernel.specs.Words.{constellationOf, rateOf, guardOf, wordOf, codesOf, codesNo}
 
--- ---- packing
+-- ---- the number of a call
 
-module _ (c : SaltTpsWord) (o : List ℕ) where
-  pub pack-short : length o < 68 → packNo c o ≡ OUTPUT-SHORT
-  pack-short h = ap (λ (b : Bool). pick b OUTPUT-SHORT (pick (reserved c) RESERVED ACCEPTED)) (lt-ltb (length o) 68 h)
+module _ (room : ℕ) (nothing : Bool) (o : List ℕ) where
+  pub codes-short : length o < room → codesNo room nothing o ≡ OUTPUT-SHORT
+  codes-short h = ap (λ (b : Bool). pick b OUTPUT-SHORT (pick nothing RESERVED ACCEPTED)) (lt-ltb (length o) room h)
 
-  by-reserved : {b : Bool} → reserved c ≡ b → packNo c o ≡ pick (ltb (length o) 68) OUTPUT-SHORT (pick b RESERVED ACCEPTED)
-  by-reserved e = ap (λ (b : Bool). pick (ltb (length o) 68) OUTPUT-SHORT (pick b RESERVED ACCEPTED)) e
+  by-nothing : {b : Bool} → nothing ≡ b → codesNo room nothing o ≡ codesNo room b o
+  by-nothing e = ap (λ (b : Bool). codesNo room b o) e
 
-  pub pack-reserved : 68 ≤ length o → reserved c ≡ true → packNo c o ≡ RESERVED
-  pack-reserved h e = by-reserved e ∙ ap (λ (b : Bool). pick b OUTPUT-SHORT RESERVED) (le-ltb (length o) 68 h)
+  pub codes-reserved : room ≤ length o → nothing ≡ true → codesNo room nothing o ≡ RESERVED
+  codes-reserved h e = by-nothing e ∙ ap (λ (b : Bool). pick b OUTPUT-SHORT RESERVED) (le-ltb (length o) room h)
 
-  -- where no code is reserved, the answer and the output are those of the library function
-  module _ (no : reserved c ≡ false) where
-    pub pack-answers : Promise.packAnswer o ≡ counted (packNo c o) 68
-    pack-answers = sym (ap (λ (n : ℕ). counted n 68) (by-reserved no))
+  -- where no code stands for nothing, the answer and the output are those of a call that asks for the room alone
+  module _ (no : nothing ≡ false) where
+    pub codes-answer : (n : ℕ) → counted (pick (ltb (length o) room) OUTPUT-SHORT ACCEPTED) n ≡ counted (codesNo room nothing o) n
+    codes-answer n = sym (ap (λ (k : ℕ). counted k n) (by-nothing no))
 
-    pub pack-leaves : (w : TpsWord) → w ≡ wordOf c → Promise.packLeaves w o ≡ packLeaves c o
-    pack-leaves w e =
-        ap (λ (x : TpsWord). Promise.packLeaves x o) e
-        ∙ sym (ap (λ (n : ℕ). kept n (written (wordBits (wordOf c)) o) o) (by-reserved no))
+    pub codes-leave : (new : List ℕ) → kept (pick (ltb (length o) room) OUTPUT-SHORT ACCEPTED) new o ≡ kept (codesNo room nothing o) new o
+    codes-leave new = sym (ap (λ (k : ℕ). kept k new o) (by-nothing no))
 
 -- ---- back
 

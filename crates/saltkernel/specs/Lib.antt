@@ -5,3 +5,4 @@ pub mod Codes
 pub mod Words
 pub mod Frames
 pub mod Sessions
+pub mod Reports

@@ -63,8 +63,12 @@ codesOf w =
 abbrev pub reserved : SaltTpsWord → Bool
 reserved c = ltb 2 (c .constellation) || ltb 4 (c .«code_rate_hp») || ltb 3 (c .guard)
 
+-- a call that asks for so much room in the lent output, and whose codes may stand for nothing
+abbrev pub codesNo : ℕ → Bool → List ℕ → ℕ
+codesNo room nothing out = pick (ltb (length out) room) OUTPUT-SHORT (pick nothing RESERVED ACCEPTED)
+
 abbrev pub packNo : SaltTpsWord → List ℕ → ℕ
-packNo c out = pick (ltb (length out) 68) OUTPUT-SHORT (pick (reserved c) RESERVED ACCEPTED)
+packNo c out = codesNo 68 (reserved c) out
 
 abbrev pub packLeaves : SaltTpsWord → List ℕ → List ℕ
 packLeaves c out = kept (packNo c out) (written (wordBits (wordOf c)) out) out

@@ -2,11 +2,13 @@
 ghost use Rattle.saltkernel.specs.Numbers.{Says};
 use ground::Counted;
 
+mod cells;
 mod codes;
 mod constellation;
 mod frames;
 mod packets;
 mod pilots;
+mod reports;
 mod sessions;
 mod symbols;
 mod whitener;

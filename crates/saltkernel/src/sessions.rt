@@ -1,5 +1,7 @@
 // The receive session, for C.
 ghost use mathlib.Core.Path.{_≡_};
+ghost use lib.ListN.{length};
+ghost use Rattle.session.specs.History.{Run, opsOf};
 ghost use Rattle.session.specs.Session.{fresh, nextPhase, fedOf, fedData, fedJournal, steppedOf, Words};
 ghost use Rattle.saltkernel.specs.Words.{SaysOneThat};
 ghost use Rattle.saltkernel.specs.Sessions.{SaysSessionFed, SaysStepped};
@@ -103,4 +105,17 @@ pub extern "C" fn salt_session_word(session: Session) -> SaltUnpacked
     ensures { λ r. ⌜ SaysOneThat (Words session) r ⌝ }
 {
     unpacked_numbers_of(session.word())
+}
+
+// script::run.
+#[no_mangle]
+pub extern "C" fn salt_session_run(
+    script: &[u8],
+    symbols: &[f32],
+    out: &mut [f32],
+    journal: &mut [f32],
+) -> Session
+    ensures { λ r. ⌜ Run (now (journal .entry)) (opsOf (now (symbols .entry)) (length (now (out .entry))) (length (now (journal .entry))) (now (script .entry)) (length (now (script .entry)))) r (now (journal .exit)) ⌝ }
+{
+    session::script::run(script, symbols, out, journal)
 }

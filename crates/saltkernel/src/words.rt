@@ -67,7 +67,7 @@ fn guard_of(code: u8) -> GuardInterval
 }
 
 // Whether a code stands for nothing.
-fn reserved_code(word: SaltTpsWord) -> bool
+pub(crate) fn reserved_code(word: SaltTpsWord) -> bool
     ensures { λ r. ⌜ r ≡ reserved word ⌝ }
 {
     if 2 < word.constellation {
@@ -80,7 +80,7 @@ fn reserved_code(word: SaltTpsWord) -> bool
 }
 
 // The word that the codes say.
-fn word_of(word: SaltTpsWord) -> TpsWord
+pub(crate) fn word_of(word: SaltTpsWord) -> TpsWord
     ensures { λ r. ⌜ r ≡ wordOf word ⌝ }
 {
     TpsWord {

@@ -1,0 +1,113 @@
+//! The report on received words.
+//!
+//! Its input is lines, each a word in 17 hexadecimal digits of lower case, the first digit's high bit s0; its output is text: a heading, a line for each line
+//! of the input, numbered from 1 on, and a closing line with the counts of lines and of refused lines.
+
+use crate::call;
+use crate::packets::count_of;
+use crate::refusal::Refusal;
+use crate::sys::{SaltReader, SaltTpsWord, SaltUnpacked};
+use crate::words::{codes_of, word_of, TpsWord};
+
+/// The bytes of the heading.
+pub const HEADING_BYTES: usize = 34;
+/// Room in bytes for every line of the report.
+pub const LINE_ROOM: usize = 60;
+/// Room in bytes for the report's end.
+pub const CLOSE_ROOM: usize = 2 * LINE_ROOM;
+
+/// The bytes of input that [`Reader::feed`] takes at once.
+const PIECE: usize = 64;
+
+/// The word that a line says, given without its newline, with up to two wrong bits mended; s0 is ignored. Refusals: [`Refusal::BadLine`],
+/// [`Refusal::NoWord`], then [`Refusal::Reserved`].
+///
+/// ```
+/// use saltkernel::report::read_line;
+/// use saltkernel::Refusal;
+///
+/// assert_eq!(read_line(b"00000000000000001")?.cell_id, 0);
+/// assert_eq!(read_line(b"0000000000000000"), Err(Refusal::BadLine));
+/// # Ok::<(), Refusal>(())
+/// ```
+pub fn read_line(line: &[u8]) -> Result<TpsWord, Refusal> {
+    word_of(call::read_line(line))
+}
+
+/// Writes the heading to a lent output; gives 34, or [`Refusal::OutputShort`].
+pub fn put_heading(out: &mut [u8]) -> Result<usize, Refusal> {
+    count_of(call::put_heading(out))
+}
+
+/// Writes the report's line for a line's number and its answer to a lent output of at least [`LINE_ROOM`] bytes; gives the bytes written, or
+/// [`Refusal::OutputShort`].
+pub fn put_line(number: u64, answer: Result<TpsWord, Refusal>, out: &mut [u8]) -> Result<usize, Refusal> {
+    const NO_WORD: SaltTpsWord = SaltTpsWord { frame_number: 0, constellation: 0, code_rate_hp: 0, guard: 0, cell_id: 0 };
+    let answer = match answer {
+        Ok(word) => SaltUnpacked { number: 0, word: codes_of(word) },
+        Err(refusal) => SaltUnpacked { number: refusal.number(), word: NO_WORD },
+    };
+    count_of(call::put_line(number, answer, out))
+}
+
+/// The reader of an input that comes in parts. In whatever parts it comes, the report is the same.
+///
+/// ```
+/// use saltkernel::report::{put_heading, Reader, HEADING_BYTES};
+///
+/// let mut report = vec![0; HEADING_BYTES];
+/// put_heading(&mut report)?;
+/// let mut reader = Reader::new();
+/// report.extend(reader.feed(b"0000000000000"));
+/// report.extend(reader.feed(b"0000\nno word"));
+/// report.extend(reader.close());
+/// assert_eq!(report, b"line frame points rate guard cell\n1 0 4 1/2 1/32 00\n2 refused 9\nread 2 refused 1\n");
+/// # Ok::<(), saltkernel::Refusal>(())
+/// ```
+#[derive(Clone, Debug)]
+pub struct Reader {
+    state: SaltReader,
+}
+
+impl Default for Reader {
+    fn default() -> Self {
+        Self::new()
+    }
+}
+
+impl Reader {
+    /// A reader at the start of the input.
+    pub fn new() -> Self {
+        Self { state: call::reader_new() }
+    }
+
+    /// Takes a part of the input, and gives the report's lines for the lines that end in it.
+    pub fn feed(&mut self, part: &[u8]) -> Vec<u8> {
+        let (mut lines, mut out) = (Vec::new(), [0; PIECE * LINE_ROOM]);
+        for piece in part.chunks(PIECE) {
+            let count = self.feed_into(piece, &mut out).expect("the output is as long as needed");
+            lines.extend_from_slice(&out[..count]);
+        }
+        lines
+    }
+
+    /// [`feed`](Self::feed) into a lent output of at least [`LINE_ROOM`] bytes for each of the part; gives the bytes written, or [`Refusal::OutputShort`].
+    pub fn feed_into(&mut self, part: &[u8], out: &mut [u8]) -> Result<usize, Refusal> {
+        let fed = call::reader_feed(self.state, part, out);
+        self.state = fed.reader;
+        count_of(fed.answer)
+    }
+
+    /// Ends the input: gives the report's line for a line that is open there, and the closing line.
+    pub fn close(&self) -> Vec<u8> {
+        let mut out = vec![0; CLOSE_ROOM];
+        let count = self.close_into(&mut out).expect("the output is as long as needed");
+        out.truncate(count);
+        out
+    }
+
+    /// [`close`](Self::close) into a lent output of at least [`CLOSE_ROOM`] bytes; gives the bytes written, or [`Refusal::OutputShort`].
+    pub fn close_into(&self, out: &mut [u8]) -> Result<usize, Refusal> {
+        count_of(call::reader_close(self.state, out))
+    }
+}
