@@ -2,7 +2,7 @@
 ghost use mathlib.Core.Path.{_≡_};
 ghost use mathlib.Core.List.{[], _∷_, _++_};
 ghost use Prim.Native.Nat.{_+_, _≤_, _<_};
-ghost use lib.ListN.{length};
+ghost use lib.ListN.{length, take};
 ghost use Rattle.tps.specs.declared.Unpacked.the-variants.{Word, Refused};
 ghost use Rattle.report.specs.Characters.{newline, space};
 ghost use Rattle.report.specs.Text.{decimal, hexadecimal, cellText, pointsText, rateText, guardText, lineText, closing};
@@ -13,6 +13,9 @@ use tps::GuardInterval;
 use tps::PunctureRate;
 use tps::TpsWord;
 use tps::Unpacked;
+
+// A column of a line: its characters, and how many of them stand.
+struct Column([u8; 5], usize);
 
 // Writes characters.
 pub(crate) fn put(out: &mut [u8], at: usize, characters: &[u8]) -> usize
@@ -38,46 +41,72 @@ fn put_decimal(out: &mut [u8], at: usize, number: u64) -> usize
     put(out, at, &digits[..count])
 }
 
-// Writes a space and the column of a constellation.
-fn put_points(out: &mut [u8], at: usize, constellation: ConstellationOrder) -> usize
-    requires { ⌜ at + 3 ≤ length (now out) ⌝ }
-    ensures text { λ r. ⌜ Put (now (out .entry)) at (space ∷ pointsText constellation) (now (out .exit)) r ⌝ }
-    ensures room { λ r. ⌜ r ≤ at + 3 ⌝ }
+// A space and the column of a constellation.
+fn points_column(constellation: ConstellationOrder) -> Column
+    ensures text { λ r. ⌜ take (r .1) (r .0) ≡ space ∷ pointsText constellation ⌝ }
+    ensures room { λ r. ⌜ r .1 ≤ 5 ⌝ }
 {
     match constellation {
-        ConstellationOrder::Qpsk => put(out, at, b" 4"),
-        ConstellationOrder::Qam16 => put(out, at, b" 16"),
-        ConstellationOrder::Qam64 => put(out, at, b" 64"),
+        ConstellationOrder::Qpsk => Column(*b" 4   ", 2),
+        ConstellationOrder::Qam16 => Column(*b" 16  ", 3),
+        ConstellationOrder::Qam64 => Column(*b" 64  ", 3),
     }
 }
 
-// Writes a space and the column of a rate.
-fn put_rate(out: &mut [u8], at: usize, rate: PunctureRate) -> usize
-    requires { ⌜ at + 4 ≤ length (now out) ⌝ }
-    ensures text { λ r. ⌜ Put (now (out .entry)) at (space ∷ rateText rate) (now (out .exit)) r ⌝ }
-    ensures room { λ r. ⌜ r ≤ at + 4 ⌝ }
+// A space and the column of a rate.
+fn rate_column(rate: PunctureRate) -> Column
+    ensures text { λ r. ⌜ take (r .1) (r .0) ≡ space ∷ rateText rate ⌝ }
+    ensures room { λ r. ⌜ r .1 ≤ 5 ⌝ }
 {
     match rate {
-        PunctureRate::R1_2 => put(out, at, b" 1/2"),
-        PunctureRate::R2_3 => put(out, at, b" 2/3"),
-        PunctureRate::R3_4 => put(out, at, b" 3/4"),
-        PunctureRate::R5_6 => put(out, at, b" 5/6"),
-        PunctureRate::R7_8 => put(out, at, b" 7/8"),
+        PunctureRate::R1_2 => Column(*b" 1/2 ", 4),
+        PunctureRate::R2_3 => Column(*b" 2/3 ", 4),
+        PunctureRate::R3_4 => Column(*b" 3/4 ", 4),
+        PunctureRate::R5_6 => Column(*b" 5/6 ", 4),
+        PunctureRate::R7_8 => Column(*b" 7/8 ", 4),
     }
 }
 
-// Writes a space and the column of a guard interval.
-fn put_guard(out: &mut [u8], at: usize, guard: GuardInterval) -> usize
-    requires { ⌜ at + 5 ≤ length (now out) ⌝ }
-    ensures text { λ r. ⌜ Put (now (out .entry)) at (space ∷ guardText guard) (now (out .exit)) r ⌝ }
-    ensures room { λ r. ⌜ r ≤ at + 5 ⌝ }
+// A space and the column of a guard interval.
+fn guard_column(guard: GuardInterval) -> Column
+    ensures text { λ r. ⌜ take (r .1) (r .0) ≡ space ∷ guardText guard ⌝ }
+    ensures room { λ r. ⌜ r .1 ≤ 5 ⌝ }
 {
     match guard {
-        GuardInterval::G1_32 => put(out, at, b" 1/32"),
-        GuardInterval::G1_16 => put(out, at, b" 1/16"),
-        GuardInterval::G1_8 => put(out, at, b" 1/8"),
-        GuardInterval::G1_4 => put(out, at, b" 1/4"),
+        GuardInterval::G1_32 => Column(*b" 1/32", 5),
+        GuardInterval::G1_16 => Column(*b" 1/16", 5),
+        GuardInterval::G1_8 => Column(*b" 1/8 ", 4),
+        GuardInterval::G1_4 => Column(*b" 1/4 ", 4),
     }
+}
+
+// Writes a column.
+fn put_column(out: &mut [u8], at: usize, column: Column) -> usize
+    requires small { ⌜ column .1 ≤ 5 ⌝ }
+    requires room { ⌜ at + 5 ≤ length (now out) ⌝ }
+    ensures text { λ r. ⌜ Put (now (out .entry)) at (take (column .1) (column .0)) (now (out .exit)) r ⌝ }
+    ensures room { λ r. ⌜ r ≤ at + 5 ⌝ }
+{
+    let characters = column.0;
+    let length = column.1;
+    put(out, at, &characters[..length])
+}
+
+// Writes the columns of a constellation, a rate and a guard interval, a space before each.
+fn put_columns(
+    out: &mut [u8],
+    at: usize,
+    constellation: ConstellationOrder,
+    rate: PunctureRate,
+    guard: GuardInterval,
+) -> usize
+    requires { ⌜ at + 15 ≤ length (now out) ⌝ }
+    ensures text { λ r. ⌜ Put (now (out .entry)) at (space ∷ (pointsText constellation ++ (space ∷ (rateText rate ++ (space ∷ guardText guard))))) (now (out .exit)) r ⌝ }
+    ensures room { λ r. ⌜ r ≤ at + 15 ⌝ }
+{
+    let points_end = put_column(out, at, points_column(constellation));
+    let rate_end = put_column(out, points_end, rate_column(rate));
+    put_column(out, rate_end, guard_column(guard))
 }
 
 // A hexadecimal digit in lower case.
@@ -112,11 +141,9 @@ fn put_word(out: &mut [u8], at: usize, number: u64, word: TpsWord) -> usize
     let frame_start = put(out, number_end, b" ");
     let frame_end = put_decimal(out, frame_start, word.frame_number as u64);
     let constellation = word.constellation;
-    let points_end = put_points(out, frame_end, constellation);
     let rate = word.code_rate_hp;
-    let rate_end = put_rate(out, points_end, rate);
     let guard = word.guard;
-    let guard_end = put_guard(out, rate_end, guard);
+    let guard_end = put_columns(out, frame_end, constellation, rate, guard);
     put_cell(out, guard_end, word.cell_id)
 }
 

@@ -14,6 +14,7 @@ use Rattle.grid.specs.Calls.{phaseOf, extractLeft}
 use Rattle.tps.specs.declared.TpsDecoder.{TpsDecoder}
 use Rattle.tps.specs.declared.Fed as tps
 use Rattle.tps.specs.Receive as receive
+use Rattle.tps.specs.Receive.{heldBits}
 use Rattle.session.specs.declared.Session.{Session}
 use Rattle.session.specs.declared.Fed.{Fed}
 use Rattle.session.specs.declared.StepBack.the-variants as step
@@ -23,7 +24,6 @@ use Rattle.session.specs.Session.{
   JOURNAL,
   tpsCells,
   standing,
-  heldBits,
   decoderOf,
   sessionOf,
   fedBy,

@@ -17,12 +17,13 @@ use Rattle.carriers.specs.Mode.{mode2k}
 use Rattle.carriers.specs.Pilots.{null}
 use Rattle.tps.specs.declared.TpsDecoder.{TpsDecoder}
 use Rattle.tps.specs.Receive as receive
+use Rattle.tps.specs.Receive.{heldBits}
 use Rattle.tps.proofs.Received.{feed-accepted}
-use Rattle.session.specs.Session.{SYMBOLS, PLACE, tpsCells, standing, heldBits, decoderOf, sessionOf, fedBy, prevIn, backTo}
+use Rattle.tps.proofs.Holding.{held-turn}
+use Rattle.session.specs.Session.{SYMBOLS, PLACE, tpsCells, standing, decoderOf, sessionOf, fedBy, prevIn, backTo}
 use Rattle.session.specs.History.{decoderAfter, cellsOf}
 use Rattle.session.proofs.Places.{tps-length}
 use Rattle.session.proofs.Cells.{cells-alone, length-cells}
-use Rattle.session.proofs.Held.{held-turn}
 use Rattle.session.proofs.Journal.{last-place}
 
 -- ---- bits with n standing

@@ -1,5 +1,4 @@
 pub mod Numbers
-pub mod Held
 pub mod Places
 pub mod Calls
 pub mod Symbols

@@ -1,12 +1,11 @@
 -- What the TPS decoder answers to a call for the word, by how many symbols stand. Assumes nothing.
 use mathlib.Core.Path.{_≡_, sym, ap, _∙_, subst}
 use mathlib.Core.Logic.{_⊎_, inl, inr, _↔_}
-use mathlib.Core.List.{List, [], _∷_, map, append-nil}
+use mathlib.Core.List.{List, [], _∷_, map}
 use Prim.Native.Nat.{ℕ, suc, _<_, min}
 use native.Mathlib.Omega.{arith}
 use lib.Dec.{ltb}
-use lib.ListN.{length, take, drop}
-use lib.Seq.{take-all}
+use lib.ListN.{take, drop}
 use borrow.Author.Tests.{le-ltb}
 use Rattle.ground.specs.Refusal.{ACCEPTED, NO-WORD, INCOMPLETE}
 use Rattle.ground.specs.Answer.{pick}
@@ -20,18 +19,14 @@ use Rattle.tps.specs.Promise.{numberOf, Tells, Received, UnpacksBy, Unpacks}
 use Rattle.tps.specs.Receive.{WordsBy, Words}
 use Rattle.tps.proofs.Unpacking.{accepted}
 use Rattle.tps.proofs.Received.{word-incomplete}
+use Rattle.tps.proofs.Holding.{held-whole}
 use Rattle.tps.proofs.Determined.{word-determined}
-use Rattle.session.specs.Session.{SYMBOLS, heldBits}
+use Rattle.session.specs.Session.{SYMBOLS}
 use Rattle.session.proofs.Decoder.{Held}
 
 small-bits : (l : List ℕ) → Bits (map (min 1) l)
 small-bits [] = tt
 small-bits (b ∷ l) = (omega arith, small-bits l)
-
-all-held : (b : List ℕ) → length b ≡ SYMBOLS → heldBits SYMBOLS b ≡ b → map (min 1) b ≡ b
-unfolding heldBits
-all-held b l e =
-    ap (map (min 1)) (sym (take-all SYMBOLS b (omega arith))) ∙ sym (append-nil (map (min 1) (take SYMBOLS b))) ∙ e
 
 refused-is : (r : Unpacked) (k : ℕ) → numberOf r ≡ suc k → r ≡ Refused (suc k)
 refused-is (Word w) k e = absurd (omega (arith, e))
@@ -41,14 +36,17 @@ pub word-below : (n : ℕ) (d : TpsDecoder) (r : Unpacked) → Held n d → n < 
 word-below n d r h l w = word-determined d r (Refused INCOMPLETE) w (word-incomplete d (omega (arith, h .count)))
 
 module _ (d : TpsDecoder) (r : Unpacked) (h : Held SYMBOLS d) (w : Words d r) where
+  all-held : map (min 1) (d .bits) ≡ d .bits
+  all-held = sym (held-whole (d .bits) (h .size)) ∙ h .bits
+
   unpacked : Unpacks (d .bits) r
   unpacked =
       let n : pick (ltb (d .count) SYMBOLS) INCOMPLETE ACCEPTED ≡ ACCEPTED = simp (le-ltb (d .count) SYMBOLS (omega (arith, h .count))) in
-      subst (λ (b : List ℕ). Unpacks b r) (all-held (d .bits) (h .size) (h .bits)) (subst (λ (k : ℕ). WordsBy k d r) n w)
+      subst (λ (b : List ℕ). Unpacks b r) all-held (subst (λ (k : ℕ). WordsBy k d r) n w)
 
   answered : UnpacksBy ACCEPTED (d .bits) r
   answered =
-      let b : Bits (d .bits) = subst Bits (all-held (d .bits) (h .size) (h .bits)) (small-bits (d .bits)) in
+      let b : Bits (d .bits) = subst Bits all-held (small-bits (d .bits)) in
       subst (λ (k : ℕ). UnpacksBy k (d .bits) r) (accepted (d .bits) (h .size) (are-bits (d .bits) b)) unpacked
 
 -- with all standing: what the codeword within two tells, or NO WORD

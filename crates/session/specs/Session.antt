@@ -1,7 +1,7 @@
 -- Document 01, 'Receive session': what each call answers, with the session after it, the lent data and the lent journal.
 -- With n symbols standing the phase is n mod 4. A count above 68 is treated as 68, a held bit above 1 as 1, and bits not standing read 0.
 use mathlib.Core.Path.{_≡_}
-use mathlib.Core.List.{List, _++_, map}
+use mathlib.Core.List.{List, _++_}
 use Prim.Native.Nat.{ℕ, zero, suc, _+_, _-_, _*_, _%_, min}
 use lib.Dec.{eqb, ltb, leb}
 use lib.Ieee.{Float}
@@ -45,13 +45,9 @@ standing s = min SYMBOLS (s .count)
 abbrev pub nextPhase : Session → ℕ
 nextPhase s = standing s % 4
 
--- the bits with n standing: the first n, each at most 1, and 0 behind them
-unfoldable pub heldBits : ℕ → List ℕ → List ℕ
-heldBits n bits = map (min 1) (take n bits) ++ replicate (SYMBOLS - n) 0
-
 -- a session as a TPS decoder, and a TPS decoder as a session
 abbrev pub decoderOf : Session → TpsDecoder
-decoderOf s = record { prev = s .prev; bits = heldBits (standing s) (s .bits); count = standing s }
+decoderOf s = record { prev = s .prev; bits = receive.heldBits (standing s) (s .bits); count = standing s }
 
 abbrev pub sessionOf : TpsDecoder → Session
 sessionOf d = record { prev = d .prev; bits = d .bits; count = d .count }
@@ -114,7 +110,7 @@ prevIn (suc n) journal = receive.firstCells 17 (drop (n * PLACE) journal)
 
 -- the session with n standing, of one with more
 unfoldable pub backTo : ℕ → Session → List Float → Session
-backTo n s journal = record { prev = prevIn n journal; bits = heldBits n (s .bits); count = n }
+backTo n s journal = record { prev = prevIn n journal; bits = receive.heldBits n (s .bits); count = n }
 
 -- what a step back answers, with the session after it; it writes nothing
 abbrev pub steppedOf : Session → List Float → SteppedBack

@@ -9,7 +9,7 @@ ghost use Prim.Native.Nat.{_≤_, _<_, min};
 ghost use lib.ListN.{length};
 ghost use Rattle.carriers.specs.Mode.{mode2k};
 ghost use Rattle.grid.specs.Calls.{phaseOf, extractLeft};
-ghost use Rattle.session.specs.Session.{tpsCells, nextPhase, heldBits, decoderOf, sessionOf, fresh, fedBy, fedRefused, inPlace, Feeds, prevIn, steppedOf, Words};
+ghost use Rattle.session.specs.Session.{tpsCells, nextPhase, decoderOf, sessionOf, fresh, fedBy, fedRefused, inPlace, Feeds, prevIn, steppedOf, Words};
 
 pub mod script;
 
@@ -44,20 +44,6 @@ fn at_most_68(count: usize) -> usize
     ensures { λ r. ⌜ r ≡ min 68 count ⌝ }
 {
     if count < 68 { count } else { 68 }
-}
-
-// The first n bits as they are held, one above 1 counting as 1, and 0 behind them.
-fn held_bits(bits: [u8; 68], n: usize) -> [u8; 68]
-    requires { ⌜ n ≤ 68 ⌝ }
-    ensures { λ r. ⌜ r ≡ heldBits n bits ⌝ }
-{
-    let mut held = [0u8; 68];
-    let mut i = 0;
-    while i < n {
-        held[i] = if bits[i] == 0 { 0 } else { 1 };
-        i += 1;
-    }
-    held
 }
 
 // The 17 TPS cells of a symbol, in rising active order, re and im in turn.
@@ -148,7 +134,7 @@ impl Session {
         let count = at_most_68(self.count);
         let prev = self.prev;
         let bits = self.bits;
-        let held = held_bits(bits, count);
+        let held = tps::inner::held_bits(bits, count);
         TpsDecoder {
             prev,
             bits: held,
@@ -226,7 +212,7 @@ impl Session {
         }
         let left = count - 1;
         let held = self.bits;
-        let bits = held_bits(held, left);
+        let bits = tps::inner::held_bits(held, left);
         let prev = cells_before(left, journal);
         SteppedBack {
             answer: StepBack::Done,

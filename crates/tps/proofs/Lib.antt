@@ -4,6 +4,7 @@ pub mod Unpacking
 pub mod Determined
 pub mod Reading
 pub mod Received
+pub mod Holding
 pub mod Signs
 pub mod Sending
 pub mod Heard

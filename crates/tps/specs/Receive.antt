@@ -1,8 +1,8 @@
 -- Document 01, 'TPS', receiving; EN 300 744, 4.6.3: symbol 0 gives bit 0; later the bit is 1 when the sum over 17 carriers of re*prev.re - im*(-prev.im)
 -- is below zero, summed in order from +0.0 in f32. A NaN sum gives 0. A 69th symbol is FULL.
 use mathlib.Core.Path.{_≡_}
-use mathlib.Core.List.{List, [], _∷_, map}
-use Prim.Native.Nat.{ℕ, zero, suc, _+_, min}
+use mathlib.Core.List.{List, [], _∷_, _++_, map}
+use Prim.Native.Nat.{ℕ, zero, suc, _+_, _-_, min}
 use lib.Dec.{eqb, ltb, leb}
 use lib.Ieee.{Float, nan, binary32, add, sub, mul, neg, lt}
 use lib.ListN.{length, getD, take, drop, set, replicate}
@@ -80,6 +80,10 @@ fedOf d cells =
 -- how many symbols stand: a count above 68 is treated as 68
 abbrev pub standing : TpsDecoder → ℕ
 standing d = min 68 (d .count)
+
+-- the bits with n standing: the first n, each at most 1, and 0 behind them
+unfoldable pub heldBits : ℕ → List ℕ → List ℕ
+heldBits n bits = map (min 1) (take n bits) ++ replicate (68 - n) 0
 
 -- s0.., one for each symbol that stands; a held bit above 1 is treated as 1
 abbrev pub receivedBits : TpsDecoder → List ℕ

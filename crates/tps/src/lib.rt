@@ -439,19 +439,6 @@ fn tps_bit(count: usize, cells: [Cell; 17], prev: [Cell; 17]) -> u8
     0
 }
 
-// The bits as they are held, one above 1 counting as 1.
-fn held_bits(bits: [u8; 68]) -> [u8; 68]
-    ensures { λ r. ⌜ r ≡ map (min 1) bits ⌝ }
-{
-    let mut held = [0u8; 68];
-    let mut i: usize = 0;
-    while i < 68 {
-        held[i] = if bits[i] == 0 { 0 } else { 1 };
-        i += 1;
-    }
-    held
-}
-
 // How many symbols stand, a count above 68 counting as 68.
 fn standing_count(count: usize) -> usize
     ensures { λ r. ⌜ r ≡ min 68 count ⌝ }
@@ -527,7 +514,7 @@ impl TpsDecoder {
             return Counted::Refused(ground::OUTPUT_SHORT);
         }
         let bits = self.bits;
-        let held = held_bits(bits);
+        let held = inner::held_bits(bits, 68);
         ground::inner::copy(&held[..standing], &mut out[..standing]);
         Counted::Count(standing)
     }
@@ -540,7 +527,7 @@ impl TpsDecoder {
             return Unpacked::Refused(ground::INCOMPLETE);
         }
         let bits = self.bits;
-        let held = held_bits(bits);
+        let held = inner::held_bits(bits, 68);
         TpsWord::unpack(&held)
     }
 }

@@ -1,4 +1,5 @@
 -- `report::text::put_word` meets its contract: the columns stand one behind the other. Assumes nothing.
+use mathlib.Core.List.{append-assoc}
 use native.Mathlib.Omega.{arith}
 use Rattle.report.specs.Text.{lineText}
 use Rattle.report.proofs.Writing.{put-then}
@@ -21,14 +22,8 @@ cast-put-decimal c = search needs
 put-decimal-requires-2 : tie.Need-put-decimal-requires-2
 put-decimal-requires-2 c κs = search needs
 
-put-points-requires : tie.Need-put-points-requires
-put-points-requires c κs = search needs
-
-put-rate-requires : tie.Need-put-rate-requires
-put-rate-requires c κs = search needs
-
-put-guard-requires : tie.Need-put-guard-requires
-put-guard-requires c κs = search needs
+put-columns-requires : tie.Need-put-columns-requires
+put-columns-requires c κs = search needs
 
 put-cell-requires : tie.Need-put-cell-requires
 put-cell-requires c κs = search needs
@@ -40,20 +35,16 @@ returns : tie.Need-returns
 unfolding lineText
 returns c =
     let c-cell = c .before .before in
-    let c-guard = c-cell .before .before .before .before in
-    let c-rate = c-guard .before .before .before .before in
-    let c-points = c-rate .before .before .before .before in
-    let c-frame = c-points .before .before .before .before in
+    let c-columns = c-cell .before .before .before .before in
+    let c-frame = c-columns .before .before .before .before in
     let c-space = c-frame .before .before .before .before .before in
     let number = c-space .before .before .before .before .before .put-decimal .ensures in
     let space = c-space .put .ensures in
     let frame = c-frame .put-decimal2 .ensures in
-    let points = c-points .put-points .ensures in
-    let rate = c-rate .put-rate .ensures in
-    let guard = c-guard .put-guard .ensures in
+    let columns = c-columns .put-columns .ensures in
     let cell = c-cell .put-cell .ensures in (
-      put-then (number .0) (put-then (put-then space (frame .0)) (put-then (points .0) (put-then (rate .0) (put-then (guard .0) (cell .0))))),
-      omega (arith, number .1, space .next, frame .1, points .1, rate .1, guard .1, cell .1),
+      put-then (number .0) (put-then (put-then space (frame .0)) (simp append-assoc at (put-then (columns .0) (cell .0)))),
+      omega (arith, number .1, space .next, frame .1, columns .1, cell .1),
     )
 
 pub put-word-spec : {M : Type 1} → statement M
@@ -65,9 +56,7 @@ put-word-spec =
     put-requires
     cast-put-decimal
     put-decimal-requires-2
-    put-points-requires
-    put-rate-requires
-    put-guard-requires
+    put-columns-requires
     put-cell-requires
     same-length
     returns)

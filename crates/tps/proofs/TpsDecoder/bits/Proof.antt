@@ -4,6 +4,7 @@ use native.Mathlib.Omega.{arith}
 use lib.ListN.{length}
 use lib.Seq.{length-take-le}
 use Rattle.tps.proofs.Received.{received-short, received-written}
+use Rattle.tps.proofs.Holding.{held-whole}
 use borrow.Author.Needs.{needs}
 use Rattle.tps.proofs.TpsDecoder.bits.Statement.{statement}
 use Rattle.tps.proofs.TpsDecoder.bits.Tie as tie
@@ -54,7 +55,7 @@ returns-2 c =
     let held = c .before .before .before .before .before .held-bits in
     let l : length (held .result) ≡ 68 = search needs in
     received-written (z .self) (z .out .now) (n .result) (n .ensures) (c .before .before .before .before .before .before .before .if1 .left)
-    (held .result) (c .before .before .copy .last .1 .0) l (held .ensures) (c .before .before .copy .ensures)
+    (held .result) (c .before .before .copy .last .1 .0) l (held .ensures ∙ held-whole (z .self .bits) (search needs)) (c .before .before .copy .ensures)
 
 pub bits-spec : {M : Type 1} → statement M
 bits-spec =

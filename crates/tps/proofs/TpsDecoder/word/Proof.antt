@@ -1,5 +1,7 @@
 -- `tps::TpsDecoder::word` meets its contract: the count is tested, and the held bits are unpacked. Assumes nothing.
+use mathlib.Core.Path.{_∙_}
 use Rattle.tps.proofs.Received.{word-incomplete, word-unpacks}
+use Rattle.tps.proofs.Holding.{held-whole}
 use borrow.Author.Needs.{needs}
 use Rattle.tps.proofs.TpsDecoder.word.Statement.{statement}
 use Rattle.tps.proofs.TpsDecoder.word.Tie as tie
@@ -17,7 +19,7 @@ unpack-requires : tie.Need-unpack-requires
 unpack-requires c κs = search needs
 
 returns-2 : tie.Need-returns-2
-returns-2 c = word-unpacks (c .before .before .before .before .before .before .args .self) (c .before .before .before .before .if1 .left) (c .unpack .result) (c .before .before .held-bits .result) (c .before .before .held-bits .ensures) (c .unpack .ensures)
+returns-2 c = word-unpacks (c .before .before .before .before .before .before .args .self) (c .before .before .before .before .if1 .left) (c .unpack .result) (c .before .before .held-bits .result) (c .before .before .held-bits .ensures ∙ held-whole (c .before .before .before .before .before .before .args .self .bits) (search needs)) (c .unpack .ensures)
 
 pub word-spec : {M : Type 1} → statement M
 word-spec =

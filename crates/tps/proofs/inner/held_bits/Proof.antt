@@ -1,15 +1,15 @@
--- `session::held_bits` meets its contract: after i turns the first i bits are held. Assumes nothing.
+-- `tps::inner::held_bits` meets its contract: after i turns the first i bits are held. Assumes nothing.
 use mathlib.Core.Path.{_≡_, refl, ap, ap₂, _∙_}
 use mathlib.Core.List.{List}
 use mathlib.Core.Logic.{⊎-elim}
 use Prim.Native.Nat.{ℕ, _-_, _≤_, min}
 use native.Mathlib.Omega.{arith}
 use lib.ListN.{length, getD, set}
-use Rattle.session.specs.Session.{heldBits}
-use Rattle.session.proofs.Held.{held-turn}
+use Rattle.tps.specs.Receive.{heldBits}
+use Rattle.tps.proofs.Holding.{held-turn}
 use borrow.Author.Needs.{needs}
-use Rattle.session.proofs.held_bits.Statement.{statement}
-use Rattle.session.proofs.held_bits.Tie as tie
+use Rattle.tps.proofs.inner.held_bits.Statement.{statement}
+use Rattle.tps.proofs.inner.held_bits.Tie as tie
 
 abbrev Inv-loop : tie.InvT-loop
 Inv-loop n bits held₀ i₀ held i = (i ≤ n) × (held ≡ heldBits i bits)

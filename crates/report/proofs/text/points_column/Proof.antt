@@ -1,0 +1,39 @@
+-- `report::text::points_column` meets its contract: in each case the characters that stand are those of the definition. Assumes nothing.
+use mathlib.Core.Path.{refl}
+use native.Mathlib.Omega.{arith}
+use Rattle.report.specs.Text.{pointsText}
+use borrow.Author.Needs.{needs}
+use Rattle.report.proofs.text.points_column.Statement.{statement}
+use Rattle.report.proofs.text.points_column.Tie as tie
+
+enum-told : tie.Need-enum-told
+enum-told c = search needs
+
+enum-told-2 : tie.Need-enum-told-2
+enum-told-2 c = search needs
+
+enum-told-3 : tie.Need-enum-told-3
+enum-told-3 c = search needs
+
+returns : tie.Need-returns
+unfolding pointsText
+returns c = (rw (c .before .before .enum-told .given .1) refl, omega arith)
+
+returns-2 : tie.Need-returns-2
+unfolding pointsText
+returns-2 c = (rw (c .before .before .enum-told2 .given .1) refl, omega arith)
+
+returns-3 : tie.Need-returns-3
+unfolding pointsText
+returns-3 c = (rw (c .before .before .enum-told3 .given .1) refl, omega arith)
+
+pub points-column-spec : {M : Type 1} → statement M
+points-column-spec =
+    tie.close
+    (tie.spec
+    enum-told
+    enum-told-2
+    enum-told-3
+    returns
+    returns-2
+    returns-3)
