@@ -48,9 +48,10 @@ build_orion() {
     echo "$version" >"$out/orion/rustc-version"
 }
 
-# Proves the port and writes its static library.
+# Proves the port and writes its static library, where there is none or a file of crates/ is newer.
 build_saltkernel() {
-    local log=$out/staticlib.log
+    local log=$out/staticlib.log archive=$root/target/staticlib/libsaltkernel.a
+    [ -f "$archive" ] && [ -z "$(find "$root/crates.txt" "$root/crates" -newer "$archive" -print -quit)" ] && return 0
     (cd "$root" && rt staticlib saltkernel) >"$log" 2>&1 </dev/null || give_up "rt staticlib saltkernel did not succeed" "$log"
 }
 
