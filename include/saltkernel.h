@@ -556,11 +556,11 @@ size_t salt_session_phase(SaltSession session);
 SaltUnpacked salt_session_word(SaltSession session);
 
 /*
- * The session after a script of calls on a new one, each with the same output and journal: the byte 255 resets, 254 steps back, and a lower byte k feeds
+ * The session after a script of calls on a new one, each with the same journal, data cells dropped: the byte 255 resets, 254 steps back, and a lower byte k feeds
  * symbol k of the symbols in a row, 4,096 floats each. A call that is refused changes nothing, and the script goes on.
  */
-SaltSession salt_session_run(const uint8_t *script, size_t script_length, const float *symbols, size_t symbols_length, float *out, size_t out_length,
-                             float *journal, size_t journal_length);
+SaltSession salt_session_run(const uint8_t *script, size_t script_length, const float *symbols, size_t symbols_length, float *journal,
+                             size_t journal_length);
 
 /* ---- the report */
 

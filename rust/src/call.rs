@@ -282,9 +282,9 @@ pub fn session_word(session: SaltSession) -> SaltUnpacked {
     unsafe { salt_session_word(session) }
 }
 
-pub fn session_run(script: &[u8], symbols: &[Complex32], out: &mut [Complex32], journal: &mut [f32]) -> SaltSession {
-    let ((symbols, symbols_length), (out, out_length)) = (floats(symbols), floats_mut(out));
-    unsafe { salt_session_run(script.as_ptr(), script.len(), symbols, symbols_length, out, out_length, journal.as_mut_ptr(), journal.len()) }
+pub fn session_run(script: &[u8], symbols: &[Complex32], journal: &mut [f32]) -> SaltSession {
+    let (symbols, symbols_length) = floats(symbols);
+    unsafe { salt_session_run(script.as_ptr(), script.len(), symbols, symbols_length, journal.as_mut_ptr(), journal.len()) }
 }
 
 // ---- the report

@@ -8,8 +8,6 @@ use crate::words::{word_of, TpsWord};
 
 /// The f32 of a journal: the TPS cells of 68 symbols.
 const JOURNAL_FLOATS: usize = 2312;
-/// The data cells of a symbol.
-const DATA_CELLS: usize = 1512;
 
 /// The receive session: the extractor and the TPS decoder joined, and it can step back. With n symbols standing the phase is n mod 4.
 ///
@@ -56,10 +54,10 @@ impl Session {
     }
 
     /// The session after a script of calls on a new one: the byte 255 resets, 254 steps back, and a lower byte k feeds symbol k of the symbols in a row,
-    /// 2,048 cells each. A call that is refused changes nothing, and the script goes on.
+    /// 2,048 cells each, the data cells dropped. A call that is refused changes nothing, and the script goes on.
     pub fn run(script: &[u8], symbols: &[Complex32]) -> Self {
-        let (mut data, mut journal) = ([Complex32::default(); DATA_CELLS], Box::new([0.0; JOURNAL_FLOATS]));
-        let state = call::session_run(script, symbols, &mut data, &mut journal[..]);
+        let mut journal = Box::new([0.0; JOURNAL_FLOATS]);
+        let state = call::session_run(script, symbols, &mut journal[..]);
         Self { state, journal }
     }
 

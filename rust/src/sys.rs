@@ -321,8 +321,6 @@ extern "C" {
         script_length: usize,
         symbols: *const f32,
         symbols_length: usize,
-        out: *mut f32,
-        out_length: usize,
         journal: *mut f32,
         journal_length: usize,
     ) -> SaltSession;

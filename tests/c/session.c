@@ -93,8 +93,7 @@ static void full(Lent *journal) {
 /* A script is its calls in turn: what is fed before a reset or taken back doesn't stand, and a refused call changes nothing. */
 static void run_script(Lent *journal) {
     static const uint8_t script[] = {1, 255, 254, 0, 1, 2, 254, 253};
-    float out[SALT_DATA_FLOATS];
-    SaltSession session = salt_session_run(script, sizeof script, symbols[0], 3 * SALT_SYMBOL_FLOATS, out, SALT_DATA_FLOATS, journal->at, journal->length);
+    SaltSession session = salt_session_run(script, sizeof script, symbols[0], 3 * SALT_SYMBOL_FLOATS, journal->at, journal->length);
     CHECK(same_session(&session, &before[2]));
 }
 

@@ -109,13 +109,8 @@ pub extern "C" fn salt_session_word(session: Session) -> SaltUnpacked
 
 // script::run.
 #[no_mangle]
-pub extern "C" fn salt_session_run(
-    script: &[u8],
-    symbols: &[f32],
-    out: &mut [f32],
-    journal: &mut [f32],
-) -> Session
-    ensures { λ r. ⌜ Run (now (journal .entry)) (opsOf (now (symbols .entry)) (length (now (out .entry))) (length (now (journal .entry))) (now (script .entry)) (length (now (script .entry)))) r (now (journal .exit)) ⌝ }
+pub extern "C" fn salt_session_run(script: &[u8], symbols: &[f32], journal: &mut [f32]) -> Session
+    ensures { λ r. ⌜ Run (now (journal .entry)) (opsOf (now (symbols .entry)) 3024 (length (now (journal .entry))) (now (script .entry)) (length (now (script .entry)))) r (now (journal .exit)) ⌝ }
 {
-    session::script::run(script, symbols, out, journal)
+    session::script::run(script, symbols, journal)
 }
