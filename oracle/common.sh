@@ -65,7 +65,7 @@ build_tpsreport() {
 compile() {
     local name=$1 log=$out/$1.log
     shift
-    rustc --edition 2024 -C opt-level=3 --crate-name "oracle_$name" -L dependency="$out/orion" \
+    rustc --edition 2021 -C opt-level=3 --crate-name "oracle_$name" -L dependency="$out/orion" \
         --extern orion_sdr="$out/orion/liborion_sdr.rlib" --extern num_complex="$out/orion/libnum_complex.rlib" \
         "$@" -o "$out/$name" "$root/oracle/src/$name.rs" >"$log" 2>&1 || give_up "oracle/src/$name.rs did not compile" "$log"
 }

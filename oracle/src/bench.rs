@@ -18,6 +18,9 @@ mod salt_pilots;
 mod salt_session;
 #[allow(dead_code)]
 mod salt_tps;
+#[allow(dead_code)]
+#[path = "../../rust/src/sys.rs"]
+mod sys;
 
 use num_complex::Complex32;
 use orion_sdr::waveform::dvb_t as gray;
@@ -25,9 +28,9 @@ use orion_sdr::waveform::dvb_t::DvbTEnergyDispersal;
 use orion_sdr::waveform::dvb_t_ts as orion;
 use points::Points;
 use random::Random;
-use salt::{SaltCell, SaltDvbTEnergyDispersal};
 use std::hint::black_box;
 use std::time::Instant;
+use sys::{SaltCell, SaltDvbTEnergyDispersal};
 
 /// Bytes of a packet.
 const PACKET: usize = 188;

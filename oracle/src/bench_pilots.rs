@@ -2,7 +2,8 @@
 
 use super::{Row, Side, copying};
 use crate::random::Random;
-use crate::salt_pilots::{self as salt, SaltScatteredPilotExtractor, SaltScatteredPilotMapper};
+use crate::salt_pilots as salt;
+use crate::sys::{SaltScatteredPilotExtractor, SaltScatteredPilotMapper};
 use num_complex::Complex32;
 use orion_sdr::core::Block;
 use orion_sdr::multicarrier::{CarrierGrid, GridExtract, GridMap};

@@ -3,7 +3,7 @@
 
 use super::{Row, Side, copying};
 use crate::random::Random;
-use crate::salt_session::SaltSession;
+use crate::sys::SaltSession;
 use num_complex::Complex32;
 use orion_sdr::waveform::dvb_t::{GuardInterval, ScatteredPilotExtractor, tps_carrier_bins};
 use orion_sdr::waveform::dvb_t_tps::TpsDecoder;

@@ -2,7 +2,7 @@
 
 use super::{Row, Side};
 use crate::random::Random;
-use crate::salt_tps::{SaltTpsDecoder, SaltTpsEncoder, SaltTpsWord};
+use crate::sys::{SaltTpsDecoder, SaltTpsEncoder, SaltTpsWord};
 use num_complex::Complex32;
 use orion_sdr::fec::PunctureRate;
 use orion_sdr::modulate::ConstellationOrder;
@@ -26,7 +26,9 @@ pub fn rows() -> Vec<Row> {
         unpack("TpsWord::unpack, none wrong", 0),
         unpack("TpsWord::unpack, 2 wrong", 2),
         next_symbol(),
-        feed_symbol("TpsDecoder::feed_symbol", Some(0.8), |decoder, cells| drop(black_box(decoder.feed_in_place(cells)))),
+        feed_symbol("TpsDecoder::feed_symbol", Some(0.8), |decoder, cells| {
+            black_box(decoder.feed_in_place(cells));
+        }),
         feed_symbol("TpsDecoder::feed_symbol, by value", None, |decoder, cells| *decoder = decoder.feed_symbol(cells).decoder),
     ]
 }

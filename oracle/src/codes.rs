@@ -4,7 +4,7 @@ use crate::answer::{Answer, shown};
 use crate::harness::{Expected, Run, Subject};
 use crate::lent::{EMPTY, Lent, Room, UNTOUCHED, background, surroundings};
 use crate::random::Random;
-use crate::salt::SaltCounted;
+use crate::sys::SaltCounted;
 use crate::{salt_codes as salt, shrink};
 use orion_sdr::waveform::dvb_t_tps as orion;
 

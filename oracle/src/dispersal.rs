@@ -5,8 +5,8 @@ use crate::answer::{Answer, shown};
 use crate::harness::{Expected, Run, Subject};
 use crate::lent::{EMPTY, Lent, Room, UNTOUCHED, background, surroundings};
 use crate::random::Random;
-use crate::salt::SaltDvbTEnergyDispersal;
 use crate::shrink;
+use crate::sys::SaltDvbTEnergyDispersal;
 use orion_sdr::waveform::dvb_t::DvbTEnergyDispersal;
 
 /// Document 01's OUTPUT SHORT.

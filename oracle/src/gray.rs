@@ -5,7 +5,7 @@ use crate::harness::{Expected, Run, Subject};
 use crate::lent::{EMPTY, Lent, Room, UNTOUCHED, background, surroundings};
 use crate::points::{Points, SIZES, groups, pattern};
 use crate::random::Random;
-use crate::salt::{SaltCell, SaltSoft};
+use crate::sys::{SaltCell, SaltSoft};
 use crate::{salt, shrink};
 use num_complex::Complex32;
 use orion_sdr::waveform::dvb_t as orion;

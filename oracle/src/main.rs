@@ -25,6 +25,9 @@ mod session_sides;
 mod shrink;
 mod signals;
 mod symbols;
+#[allow(dead_code)]
+#[path = "../../rust/src/sys.rs"]
+mod sys;
 mod ts;
 mod words;
 

@@ -8,10 +8,11 @@ use crate::harness::{Expected, Run, Subject};
 use crate::lent::{Lent, Room, UNTOUCHED, background, surroundings};
 use crate::points::pattern;
 use crate::random::Random;
-use crate::salt::{SaltCell, SaltCounted};
-use crate::salt_tps::{SaltTpsBit, SaltTpsDecoder, SaltTpsWord, SaltUnpacked, feed_parts};
+use crate::salt_tps::feed_parts;
 use crate::sender::every_room;
+use crate::shrink;
 use crate::signals::{CELLS, Cells, Signal};
+use crate::sys::{SaltCell, SaltCounted, SaltTpsBit, SaltTpsDecoder, SaltTpsWord, SaltUnpacked};
 use crate::words::{WORD, owed, with_word};
 use orion_sdr::waveform::dvb_t_tps::TpsDecoder;
 
@@ -345,14 +346,8 @@ impl Subject for Receiver {
         if by_document { Expected::document(answer) } else { Expected::orion(answer) }
     }
 
-    /// Fewer calls, then less in one of them.
     fn smaller<'a>(&'a self, case: &'a Vec<Step>) -> Box<dyn Iterator<Item = Vec<Step>> + 'a> {
-        let fronts = (0..case.len()).map(|length| case[..length].to_vec());
-        let without = (0..case.len()).map(|place| [&case[..place], &case[place + 1..]].concat());
-        let within = (0..case.len()).flat_map(move |place| {
-            case[place].smaller().map(move |step| [&case[..place], &[step], &case[place + 1..]].concat())
-        });
-        Box::new(fronts.chain(without).chain(within))
+        shrink::calls(case, Step::smaller)
     }
 
     fn show(&self, case: &Vec<Step>) -> String {

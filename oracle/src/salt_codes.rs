@@ -1,11 +1,6 @@
-//! The port's C interface for the code of the TPS words, and a safe function over each of its functions.
+//! A safe function over each function of the port's C interface for the code of the TPS words.
 
-use crate::salt::SaltCounted;
-
-unsafe extern "C" {
-    fn salt_tps_bch_encode(info: *const u8, info_length: usize, out: *mut u8, out_length: usize) -> SaltCounted;
-    fn salt_tps_bch_decode(code: *const u8, code_length: usize, out: *mut u8, out_length: usize) -> SaltCounted;
-}
+use crate::sys::*;
 
 /// The codeword of 53 information bits, into a lent output.
 pub fn tps_bch_encode(info: &[u8], out: &mut [u8]) -> SaltCounted {

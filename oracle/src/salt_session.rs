@@ -1,42 +1,6 @@
-//! The port's C interface to the receive session, and a safe function over each of its functions.
+//! A safe function over each function of the port's C interface to the receive session.
 
-use crate::salt::SaltCell;
-use crate::salt_tps::SaltUnpacked;
-
-/// The session's state, by value.
-#[repr(C)]
-#[derive(Clone, Copy)]
-pub struct SaltSession {
-    pub prev: [SaltCell; 17],
-    pub bits: [u8; 68],
-    pub count: usize,
-}
-
-/// What a feed answers: the symbol's bit, and the session behind it or, refused, as it went in.
-#[repr(C)]
-pub struct SaltSessionFed {
-    pub number: u8,
-    pub bit: u8,
-    pub session: SaltSession,
-}
-
-/// What a step back answers: the session without its latest symbol or, refused, as it went in.
-#[repr(C)]
-pub struct SaltSessionStepped {
-    pub number: u8,
-    pub session: SaltSession,
-}
-
-unsafe extern "C" {
-    fn salt_session_new() -> SaltSession;
-    fn salt_session_reset(session: SaltSession) -> SaltSession;
-    fn salt_session_feed(
-        session: SaltSession, symbol: *const f32, symbol_length: usize, out: *mut f32, out_length: usize, journal: *mut f32, journal_length: usize,
-    ) -> SaltSessionFed;
-    fn salt_session_step_back(session: SaltSession, journal: *const f32, journal_length: usize) -> SaltSessionStepped;
-    fn salt_session_phase(session: SaltSession) -> usize;
-    fn salt_session_word(session: SaltSession) -> SaltUnpacked;
-}
+use crate::sys::*;
 
 impl SaltSession {
     /// A session in which no symbol stands.

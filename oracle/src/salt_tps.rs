@@ -1,17 +1,6 @@
-//! The port's C interface to the TPS word, its sender and its receiver, and a safe function over each of its functions.
+//! A safe function over each function of the port's C interface to the TPS word, its sender and its receiver.
 
-use crate::salt::{SaltCell, SaltCounted};
-
-/// A word: document 01's codes for the constellation, the rate and the guard interval.
-#[repr(C)]
-#[derive(Clone, Copy, PartialEq)]
-pub struct SaltTpsWord {
-    pub frame_number: u8,
-    pub constellation: u8,
-    pub code_rate_hp: u8,
-    pub guard: u8,
-    pub cell_id: u8,
-}
+use crate::sys::*;
 
 impl SaltTpsWord {
     /// What stands beside a refusal.
@@ -26,68 +15,6 @@ impl SaltTpsWord {
     pub fn of([frame_number, constellation, code_rate_hp, guard, cell_id]: [u8; 5]) -> Self {
         Self { frame_number, constellation, code_rate_hp, guard, cell_id }
     }
-}
-
-/// A word, or a refusal and a word of zeros.
-#[repr(C)]
-#[derive(Clone, Copy, PartialEq)]
-pub struct SaltUnpacked {
-    pub number: u8,
-    pub word: SaltTpsWord,
-}
-
-/// The sender's state, by value.
-#[repr(C)]
-#[derive(Clone, Copy)]
-pub struct SaltTpsEncoder {
-    pub signs: [f32; 17],
-    pub started: bool,
-}
-
-/// What sending a bit answers: how many cells, and the sender behind them or, refused, as it went in.
-#[repr(C)]
-pub struct SaltSent {
-    pub answer: SaltCounted,
-    pub encoder: SaltTpsEncoder,
-}
-
-/// The receiver's state, by value.
-#[repr(C)]
-#[derive(Clone, Copy)]
-pub struct SaltTpsDecoder {
-    pub prev: [SaltCell; 17],
-    pub bits: [u8; 68],
-    pub count: usize,
-}
-
-/// What feeding a symbol answers: its bit, and the receiver behind it or, refused, as it went in.
-#[repr(C)]
-pub struct SaltTpsFed {
-    pub number: u8,
-    pub bit: u8,
-    pub decoder: SaltTpsDecoder,
-}
-
-/// What feeding a symbol in place answers: its bit, or a refusal and the bit 0.
-#[repr(C)]
-pub struct SaltTpsBit {
-    pub number: u8,
-    pub bit: u8,
-}
-
-unsafe extern "C" {
-    fn salt_tps_word_pack(word: SaltTpsWord, out: *mut u8, out_length: usize) -> SaltCounted;
-    fn salt_tps_word_unpack(bits: *const u8, bits_length: usize) -> SaltUnpacked;
-    fn salt_tps_encoder_new() -> SaltTpsEncoder;
-    fn salt_tps_encoder_reset(encoder: SaltTpsEncoder) -> SaltTpsEncoder;
-    fn salt_tps_encoder_next_symbol(encoder: SaltTpsEncoder, bit: u8, out: *mut f32, out_length: usize) -> SaltSent;
-    fn salt_tps_decoder_new() -> SaltTpsDecoder;
-    fn salt_tps_decoder_reset(decoder: SaltTpsDecoder) -> SaltTpsDecoder;
-    fn salt_tps_decoder_feed_symbol(decoder: SaltTpsDecoder, cells: *const f32, cells_length: usize) -> SaltTpsFed;
-    fn salt_tps_decoder_feed_in_place(prev: *mut f32, bits: *mut u8, count: *mut usize, cells: *const f32, cells_length: usize) -> SaltTpsBit;
-    fn salt_tps_decoder_is_complete(decoder: SaltTpsDecoder) -> u8;
-    fn salt_tps_decoder_bits(decoder: SaltTpsDecoder, out: *mut u8, out_length: usize) -> SaltCounted;
-    fn salt_tps_decoder_word(decoder: SaltTpsDecoder) -> SaltUnpacked;
 }
 
 impl SaltTpsWord {

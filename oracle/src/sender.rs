@@ -7,7 +7,8 @@ use crate::harness::{Expected, Run, Subject};
 use crate::lent::{EMPTY, Lent, Room, UNTOUCHED, surroundings};
 use crate::pilots::no_values;
 use crate::random::Random;
-use crate::salt_tps::SaltTpsEncoder;
+use crate::shrink;
+use crate::sys::SaltTpsEncoder;
 use orion_sdr::waveform::dvb_t_tps::TpsEncoder;
 
 /// Floats of a symbol's cells.
@@ -124,14 +125,8 @@ impl Subject for Sender {
         if case.iter().any(|step| step.number() != 0) { Expected::document(answer) } else { Expected::orion(answer) }
     }
 
-    /// Fewer calls, then less in one of them.
     fn smaller<'a>(&'a self, case: &'a Vec<Step>) -> Box<dyn Iterator<Item = Vec<Step>> + 'a> {
-        let fronts = (0..case.len()).map(|length| case[..length].to_vec());
-        let without = (0..case.len()).map(|place| [&case[..place], &case[place + 1..]].concat());
-        let within = (0..case.len()).flat_map(move |place| {
-            case[place].smaller().map(move |step| [&case[..place], &[step], &case[place + 1..]].concat())
-        });
-        Box::new(fronts.chain(without).chain(within))
+        shrink::calls(case, |step| step.smaller())
     }
 
     fn show(&self, case: &Vec<Step>) -> String {

@@ -4,10 +4,9 @@
 use crate::cells::cells;
 use crate::points::pattern;
 use crate::receiver::{HANDED, INCOMPLETE};
-use crate::salt_session::SaltSession;
-use crate::salt_tps::{SaltTpsWord, SaltUnpacked};
 use crate::session_calls::{DATA, JOURNAL, Memory, SYMBOL, Seen, Step};
 use crate::signals::CELLS;
+use crate::sys::{SaltSession, SaltTpsWord, SaltUnpacked};
 use crate::words::{WORD, owed};
 use num_complex::Complex32;
 use orion_sdr::waveform::dvb_t::{GuardInterval, ScatteredPilotExtractor, tps_carrier_bins};

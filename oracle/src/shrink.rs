@@ -58,3 +58,16 @@ pub fn floats(float: f32) -> impl Iterator<Item = f32> {
     let cleared = (0..32).map(move |place| bits & !(1 << place));
     plain.chain(shorter).chain(cleared).filter(move |less| *less < bits).map(f32::from_bits)
 }
+
+/// Sequences of calls below one: fewer calls, then less in one of them.
+pub fn calls<'a, Call: Clone, Less: Iterator<Item = Call> + 'a>(
+    calls: &'a [Call],
+    less: impl Fn(&'a Call) -> Less + 'a,
+) -> Box<dyn Iterator<Item = Vec<Call>> + 'a> {
+    let fronts = (0..calls.len()).map(|length| calls[..length].to_vec());
+    let without = (0..calls.len()).map(|place| [&calls[..place], &calls[place + 1..]].concat());
+    let within = (0..calls.len()).flat_map(move |place| {
+        less(&calls[place]).map(move |call| [&calls[..place], &[call], &calls[place + 1..]].concat())
+    });
+    Box::new(fronts.chain(without).chain(within))
+}

@@ -4,6 +4,7 @@ use crate::answer::{Answer, shown};
 use crate::harness::{Expected, Run, Subject};
 use crate::lent::{EMPTY, Lent, Room, UNTOUCHED, background, surroundings};
 use crate::random::Random;
+use crate::sys::SaltCounted;
 use crate::{salt, shrink};
 use orion_sdr::waveform::dvb_t_ts as orion;
 
@@ -33,7 +34,7 @@ struct Through {
 
 impl Through {
     /// The port's answer to a call that reads the input and writes an output of so many bytes.
-    fn ours(&self, needed: usize, call: fn(&[u8], &mut [u8]) -> salt::SaltCounted) -> Answer {
+    fn ours(&self, needed: usize, call: fn(&[u8], &mut [u8]) -> SaltCounted) -> Answer {
         let mut input = Lent::to_read("input", &self.input);
         let mut out = Lent::to_write("output", &background(self.room.size(needed)));
         let answer = call(input.slice(), out.slice_mut());

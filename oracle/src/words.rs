@@ -6,8 +6,8 @@ use crate::codes::{LENGTH, NO_WORD, NOT_A_BIT, OUTPUT_SHORT, information, some_p
 use crate::harness::{Expected, Run, Subject};
 use crate::lent::{EMPTY, Lent, Room, UNTOUCHED, background, surroundings};
 use crate::random::Random;
-use crate::salt_tps::{SaltTpsWord, SaltUnpacked};
 use crate::shrink;
+use crate::sys::{SaltTpsWord, SaltUnpacked};
 use orion_sdr::fec::PunctureRate;
 use orion_sdr::modulate::ConstellationOrder;
 use orion_sdr::waveform::dvb_t::GuardInterval;

@@ -203,7 +203,7 @@ extern "C" {
 // ---- the TPS word
 
 #[repr(C)]
-#[derive(Clone, Copy)]
+#[derive(Clone, Copy, PartialEq)]
 pub struct SaltTpsWord {
     pub frame_number: u8,
     pub constellation: u8,
@@ -213,7 +213,7 @@ pub struct SaltTpsWord {
 }
 
 #[repr(C)]
-#[derive(Clone, Copy)]
+#[derive(Clone, Copy, PartialEq)]
 pub struct SaltUnpacked {
     pub number: u8,
     pub word: SaltTpsWord,
