@@ -11,7 +11,8 @@ use Rattle.ground.proofs.Tests.{below, below-at}
 use Rattle.bch.specs.Poly.{divisionStep}
 use Rattle.bch.specs.Field.{timesX, mul}
 use Rattle.bch.proofs.Xor.{xor-swap, xor-front, xor-middle, xor-zero-eq}
-use Rattle.bch.proofs.Field.{mul-lt, mul-xor, xor-mul, timesX-mul, one-mul, mul-comm, mul-assoc, cancel}
+use Rattle.bch.proofs.Field.{one-mul, mul-comm, mul-assoc, cancel}
+use Rattle.bch.proofs.Product.{mul-lt, mul-xor, xor-mul, timesX-mul}
 use Rattle.bch.proofs.Additive.{timesX-lt, timesX-zero}
 
 -- ---- squares, cubes, the locator

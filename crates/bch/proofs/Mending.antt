@@ -21,7 +21,8 @@ use Rattle.bch.specs.Inner.{flip, mended, Changes}
 use Rattle.bch.specs.Search.{added, Rising, Locates}
 use Rattle.bch.specs.declared.inner.Found.{Found}
 use Rattle.bch.specs.declared.inner.Found.the-variants.{Clean, One, Two, NoWord}
-use Rattle.bch.proofs.Distance.{rem-places, syndrome, places-rising}
+use Rattle.bch.proofs.Distance.{syndrome}
+use Rattle.bch.proofs.Places.{rem-places, places-rising}
 
 pub flip-length : (w : List ℕ) (i : ℕ) → length (flip w i) ≡ length w
 unfolding flip

@@ -1,21 +1,18 @@
--- What long division gives is the remainder: of all ways to write bits as a product with g plus a polynomial of degree below n there is one.
--- And the product in GF(128) is the remainder of the product of the two polynomials by x^7 + x^3 + 1.
--- Assumes nothing.
+-- What long division gives is the remainder: of all ways to write bits as a product with g plus a polynomial of degree below n there is one. Assumes nothing.
 use mathlib.Core.Path.{_≡_, refl, sym, ap, ap₂, _∙_, subst}
 use mathlib.Core.List.{List, [], _∷_}
 use Prim.Native.Nat.{ℕ, zero, suc, _+_, _-_, _*_, _/_, _%_, _^_, _<_, _≤_}
-use native.Mathlib.Nat.{add-zero, add-comm, pow-suc, div-eq-of-lt, mod-eq-of-lt}
+use native.Mathlib.Nat.{add-zero, add-comm, pow-suc, div-eq-of-lt}
 use native.Mathlib.Omega.{arith}
 use lib.Arith.{digits-div, digits-mod, lt-one}
 use lib.Pow.{pow-pos, pow-mono}
 use lib.Bits.{bitXor, xor-self, xor-zero-r, xor-lt}
 use lib.ListN.{length}
 use Rattle.ground.specs.Bits.{Bits}
-use Rattle.ground.specs.Digits.{digitsOf, valueOf}
+use Rattle.ground.specs.Digits.{valueOf}
 use Rattle.ground.proofs.Xor.{bit-cases, odd, xor-half}
-use Rattle.ground.proofs.Digits.{number-below, small-digits, digits-bits}
+use Rattle.ground.proofs.Digits.{number-below}
 use Rattle.bch.specs.Poly.{productOf, divisionStep, remainderBy}
-use Rattle.bch.specs.Field.{FIELD, timesX, horner, mul}
 use Rattle.bch.proofs.Xor.{xor-odd}
 use Rattle.bch.proofs.Division.{step-lt, step-xor}
 
@@ -27,7 +24,7 @@ half-lt m v h = omega (arith, pow-suc 2 m)
 
 module _ (n g : ℕ) (monic : g / 2 ^ n ≡ 1) where
   -- the remainder of the m low digits of a number, from the lowest digit up
-  abbrev reduced : ℕ → ℕ → ℕ
+  abbrev pub reduced : ℕ → ℕ → ℕ
   reduced zero v = 0
   reduced (suc m) v = divisionStep n g (reduced m (v / 2)) (v % 2)
 
@@ -35,20 +32,20 @@ module _ (n g : ℕ) (monic : g / 2 ^ n ≡ 1) where
   reduced-lt zero v = pow-pos n
   reduced-lt (suc m) v = step-lt n g monic (reduced m (v / 2)) (v % 2) (reduced-lt m (v / 2)) (odd v)
 
-  reduced-xor : (m a b : ℕ) → reduced m (bitXor a b) ≡ bitXor (reduced m a) (reduced m b)
+  pub reduced-xor : (m a b : ℕ) → reduced m (bitXor a b) ≡ bitXor (reduced m a) (reduced m b)
   reduced-xor zero a b = refl
   reduced-xor (suc m) a b =
       ap₂ (divisionStep n g) (ap (reduced m) (xor-half a b) ∙ reduced-xor m (a / 2) (b / 2)) (xor-odd a b)
       ∙ step-xor n g monic (reduced m (a / 2)) (reduced m (b / 2)) (a % 2) (b % 2) (reduced-lt m (a / 2)) (reduced-lt m (b / 2)) (odd a) (odd b)
 
-  reduced-zero : (m : ℕ) → reduced m 0 ≡ 0
+  pub reduced-zero : (m : ℕ) → reduced m 0 ≡ 0
   reduced-zero m = reduced-xor m 0 0 ∙ xor-self (reduced m 0)
 
   -- a digit more behind
-  reduced-behind : (m s b : ℕ) → b < 2 → reduced (suc m) (s * 2 + b) ≡ divisionStep n g (reduced m s) b
+  pub reduced-behind : (m s b : ℕ) → b < 2 → reduced (suc m) (s * 2 + b) ≡ divisionStep n g (reduced m s) b
   reduced-behind m s b h = ap₂ (λ (x y : ℕ). divisionStep n g (reduced m x) y) (digits-div s h) (digits-mod s h)
 
-  reduced-bits : (m s : ℕ) (bs : List ℕ) → Bits bs → reduced (m + length bs) (valueOf s bs) ≡ remainderBy n g (reduced m s) bs
+  pub reduced-bits : (m s : ℕ) (bs : List ℕ) → Bits bs → reduced (m + length bs) (valueOf s bs) ≡ remainderBy n g (reduced m s) bs
   reduced-bits m s [] hb = ap (λ (k : ℕ). reduced k s) (add-zero m)
   reduced-bits m s (b ∷ bs) hb =
       let e : m + suc (length bs) ≡ suc m + length bs = omega arith in
@@ -141,47 +138,3 @@ module _ (n g : ℕ) (monic : g / 2 ^ n ≡ 1) where
         ∙ reduced-xor (k + m) (productOf g 0 qs) r
         ∙ ap₂ bitXor (reduced-more k m (productOf g 0 qs) (p .1) ∙ p .0)
         (ap (λ (j : ℕ). reduced j r) (sym t) ∙ reduced-more n (length qs + m) r hr ∙ reduced-small n r (omega arith) hr)
-
--- ---- the product in GF(128)
-
--- the product of two polynomials: shifted, and added without carry
-abbrev pub plainProduct : ℕ → ℕ → ℕ
-plainProduct a b = horner (λ p. p * 2) 7 a b
-
-product-lt : (n a b : ℕ) → a < 2 ^ 7 → horner (λ p. p * 2) n a b < 2 ^ (7 + n)
-product-lt zero a b h = omega arith
-product-lt (suc n) a b h =
-    let e : 7 + suc n ≡ suc (7 + n) = omega arith in
-    let p : ℕ = horner (λ p. p * 2) n a (b / 2) in
-    let up : 2 ^ 7 ≤ 2 ^ suc (7 + n) = pow-mono {i = 7} {j = suc (7 + n)} (omega arith) in
-    let d : b % 2 * a < 2 ^ 7 = bit-cases (λ (x : ℕ). x * a < 2 ^ 7) (omega arith) (omega arith) (b % 2) (odd b) in
-    subst (λ (k : ℕ). bitXor (p * 2) (b % 2 * a) < 2 ^ k) (sym e)
-    (xor-lt (suc (7 + n)) (p * 2) (b % 2 * a) (omega (arith, pow-suc 2 (7 + n), product-lt n a (b / 2) h)) (omega arith))
-
-product-reduced : (n a b : ℕ) → a < 2 ^ 7 → reduced 7 FIELD refl (7 + n) (horner (λ p. p * 2) n a b) ≡ horner timesX n a b
-unfolding timesX
-product-reduced zero a b h = reduced-zero 7 FIELD refl 7
-product-reduced (suc n) a b h =
-    let e : 7 + suc n ≡ suc (7 + n) = omega arith in
-    let p : ℕ = horner (λ p. p * 2) n a (b / 2) in
-    let z : p * 2 + 0 ≡ p * 2 = add-zero (p * 2) in
-    let d : b % 2 * a < 2 ^ 7 = bit-cases (λ (x : ℕ). x * a < 2 ^ 7) (omega arith) (omega arith) (b % 2) (odd b) in
-    let s : 7 + suc n ≡ suc (7 + n) = omega arith in
-    ap (λ (k : ℕ). reduced 7 FIELD refl k (bitXor (p * 2) (b % 2 * a))) e
-    ∙ reduced-xor 7 FIELD refl (suc (7 + n)) (p * 2) (b % 2 * a)
-    ∙ ap₂ bitXor
-    (ap (reduced 7 FIELD refl (suc (7 + n))) (sym z) ∙ reduced-behind 7 FIELD refl (7 + n) p 0 (omega arith)
-    ∙ ap (λ (r : ℕ). divisionStep 7 FIELD r 0) (product-reduced n a (b / 2) h))
-    (ap (λ (k : ℕ). reduced 7 FIELD refl k (b % 2 * a)) (sym s) ∙ reduced-more 7 FIELD refl 7 (suc n) (b % 2 * a) d
-    ∙ reduced-small 7 FIELD refl 7 (b % 2 * a) (omega arith) d)
-
--- the product of two elements is the remainder of the product of their polynomials by x^7 + x^3 + 1
-pub mul-is-remainder : (a b : ℕ) → a < 2 ^ 7 → mul a b ≡ remainderBy 7 FIELD 0 (digitsOf 14 (plainProduct a b))
-unfolding mul
-mul-is-remainder a b h =
-    let v : ℕ = plainProduct a b in
-    let l : v < 2 ^ 14 = product-lt 7 a b h in
-    ap (λ (x : ℕ). horner timesX 7 x b) (mod-eq-of-lt h)
-    ∙ sym (product-reduced 7 a b h)
-    ∙ ap (reduced 7 FIELD refl 14) (sym (small-digits 14 v l))
-    ∙ reduced-bits 7 FIELD refl 0 0 (digitsOf 14 v) (digits-bits 14 v)

@@ -16,7 +16,8 @@ use Rattle.bch.specs.Field.{timesX, horner, mul}
 use Rattle.bch.specs.Search.{timesX3, syn1, syn3, power, column}
 use Rattle.bch.proofs.Linear.{Sums, sums-zero, agree, linear-below}
 use Rattle.bch.proofs.Turns.{turn-lt, turn-xor, power-lt}
-use Rattle.bch.proofs.Field.{timesX-mul, mul-lt, one-mul}
+use Rattle.bch.proofs.Field.{one-mul}
+use Rattle.bch.proofs.Product.{timesX-mul, mul-lt}
 use Rattle.bch.proofs.Locator.{sq, cube, alpha, alpha-lt, mul-timesX, at}
 use Rattle.bch.proofs.Additive.{Additive, x-additive, x3-additive, timesX-lt}
 use Rattle.bch.proofs.Horner.{horner-lt, horner-xor}

@@ -13,7 +13,8 @@ use lib.Ieee.Scale.{finite}
 use Rattle.gray.specs.declared.ConstellationOrder.{ConstellationOrder}
 use Rattle.gray.specs.Levels.{levels, at}
 use Rattle.gray.specs.Hard.{abs, distance, distances, entry, First}
-use Rattle.gray.proofs.Magnitudes.{lt-not-self, finite-at}
+use Rattle.gray.proofs.Magnitudes.{lt-not-self}
+use Rattle.gray.proofs.Differences.{finite-at}
 use Rattle.gray.proofs.Nearest.{distances-length, distances-entry}
 
 -- entries that are all equal have index 0 as the first

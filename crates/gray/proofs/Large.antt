@@ -1,27 +1,23 @@
--- Every finite f32 of magnitude 2 ^ 26 or more has all its distances equal, and so index 0; one of 2 ^ 64 or more has squares that all overflow, and so
--- soft values that are NaN. Either sign. Assumes nothing.
+-- Every finite f32 of magnitude 2 ^ 26 or more, of either sign, has all its distances equal, and so index 0. Assumes nothing.
 use Prim.Native.Nat.{ℕ, zero, suc, _+_, _-_, _*_, _^_, _≤_, _<_}
-use native.Mathlib.Nat.{le-refl, le-trans, le-of-eq, le-of-lt, lt-of-lt-of-le, not-le-of-lt, one-mul, mul-one, mul-le-mul, mul-le-mul-left, mul-le-mul-right}
+use native.Mathlib.Nat.{le-refl, le-trans, le-of-eq, le-of-lt, lt-of-lt-of-le, not-le-of-lt, one-mul, mul-one, mul-le-mul-left, mul-le-mul-right}
 use native.Mathlib.Omega.{arith}
-use mathlib.Core.Path.{_≡_, refl, sym, ap, ap₂, _∙_, subst}
+use mathlib.Core.Path.{_≡_, refl, sym, ap, ap₂, _∙_}
 use mathlib.Core.Bool.{Bool, true, false, not, _&&_, Bool·beq, cond}
 use lib.IntN.{ℤ, pos, negsuc}
 use lib.Dec.{T, ltb, ltb→lt}
 use lib.ListN.{length}
 use lib.Pow.{pow-pos, pow-mono}
-use lib.Ieee.{Float, nan, inf, fin, Format, binary32, low, up, down, lt, eq, le, sub, add, neg, sum, round, mul, ofInt, ofBits, fits}
+use lib.Ieee.{Float, nan, inf, fin, Format, binary32, low, up, down, sub, add, neg, sum, round, mul, ofInt, ofBits, fits}
 use lib.Ieee.Fits.{down-pos, and-l, and-r}
-use lib.Ieee.Order.{round-mono}
 use borrow.Author.Tests.{le-ltb}
 use Rattle.ground.proofs.Tests.{below, below-at}
 use Rattle.gray.specs.declared.ConstellationOrder.{ConstellationOrder}
 use Rattle.gray.specs.declared.ConstellationOrder.the-variants.{Qpsk, Qam16, Qam64}
-use Rattle.gray.specs.Levels.{axisBits, levels, at}
+use Rattle.gray.specs.Levels.{levels, at}
 use Rattle.gray.specs.Hard.{abs, distance, distances, First}
-use Rattle.gray.specs.Soft.{square, soft}
-use Rattle.gray.proofs.Magnitudes.{same-sign, abs-round}
+use Rattle.gray.proofs.Differences.{abs-round}
 use Rattle.gray.proofs.Edges.{equal-distances-first}
-use Rattle.gray.proofs.Softs.{overflow-soft}
 use Rattle.gray.proofs.Rounding.{few-digits, rounds-to}
 use Rattle.gray.proofs.Grid.{grid-above, grid-below}
 
@@ -55,7 +51,7 @@ near-tested Qpsk = tt
 near-tested Qam16 = tt
 near-tested Qam64 = tt
 
-near-at : (o : ConstellationOrder) (j : ℕ) → j < length (levels o) → T (near (at o j))
+pub near-at : (o : ConstellationOrder) (j : ℕ) → j < length (levels o) → T (near (at o j))
 near-at o = below-at (length (levels o)) (λ j. near (at o j)) (near-tested o)
 
 -- ---- the distance of a large coordinate is its magnitude
@@ -111,7 +107,7 @@ large-distance s m k (fin t n d) f big h =
     ∙ sum-is m k (n * up d) (down d) (unsigned s m (pos k) f) big (down-pos d) (ltb→lt 0 (n * up d) (and-l A B h)) (ltb→lt (n * up d) (2 * down d) (and-r A B h)) s (not t)
 
 -- a large f32 is a whole number
-whole-number : (n : ℕ) → 26 ≤ n → (s : Bool) (m : ℕ) (e : ℤ) → T (fits binary32 (fin s m e)) → Large n (fin s m e) → (P : ℤ → Type 0)
+pub whole-number : (n : ℕ) → 26 ≤ n → (s : Bool) (m : ℕ) (e : ℤ) → T (fits binary32 (fin s m e)) → Large n (fin s m e) → (P : ℤ → Type 0)
     → ((k : ℕ) → 2 ^ n ≤ m * 2 ^ k → P (pos k)) → P e
 whole-number n l s m (pos k) f h P q = q k (le-trans (le-of-eq (sym (mul-one (2 ^ n)))) h)
 whole-number n l s m (negsuc k) f h P q = absurd (too-small m k (unsigned s m (negsuc k) f) h)
@@ -135,44 +131,3 @@ large-distances o (fin s m e) f h j l =
 -- every finite f32 of magnitude 2 ^ 26 or more gives index 0
 pub large-first : (o : ConstellationOrder) (x : Float) → T (fits binary32 x) → Large 26 x → (i : ℕ) → First (distances o x) i → i ≡ 0
 large-first o x f h = equal-distances-first o x (abs x) (large-distances o x f h)
-
--- ---- squares that overflow
-square-of-abs : (d : Float) → mul binary32 d d ≡ mul binary32 (abs d) (abs d)
-unfolding mul abs
-square-of-abs nan = refl
-square-of-abs (inf s) = ap inf (same-sign s)
-square-of-abs (fin s m e) = ap (λ (t : Bool). round binary32 t (m * up e * (m * up e)) (down e * down e)) (same-sign s)
-
-only-inf : (y : Float) → T (le (inf false) y) → y ≡ inf false
-unfolding le lt eq
-only-inf nan h = absurd h
-only-inf (inf true) h = absurd h
-only-inf (inf false) h = refl
-only-inf (fin s m e) h = absurd h
-
-top-overflows : round binary32 false (2 ^ 128) 1 ≡ inf false
-unfolding round
-top-overflows = refl
-
-overflows : (a : ℕ) → 2 ^ 128 ≤ a → round binary32 false a 1 ≡ inf false
-overflows a h =
-    only-inf (round binary32 false a 1)
-    (subst (λ (y : Float). T (le y (round binary32 false a 1))) top-overflows (round-mono binary32 (2 ^ 128) 1 a 1 (pow-pos 0) (pow-pos 0) (mul-le-mul-right 1 h)))
-
-large-square : (m k : ℕ) → 2 ^ 64 ≤ m * 2 ^ k → mul binary32 (fin false m (pos k)) (fin false m (pos k)) ≡ inf false
-unfolding mul
-large-square m k h = overflows (m * 2 ^ k * (m * 2 ^ k)) (mul-le-mul h h)
-
-large-squares : (o : ConstellationOrder) (x : Float) → T (fits binary32 x) → Large 64 x → (j : ℕ) → j < length (levels o) → square x (at o j) ≡ inf false
-large-squares o nan f h j l = absurd h
-large-squares o (inf s) f h j l = absurd h
-large-squares o (fin s m e) f h j l =
-    whole-number 64 (omega arith) s m e f h (λ (z : ℤ). T (fits binary32 (fin s m z)) → square (fin s m z) (at o j) ≡ inf false)
-    (λ k big g.
-    square-of-abs (sub binary32 (fin s m (pos k)) (at o j))
-    ∙ ap (λ (v : Float). mul binary32 v v) (large-distance s m k (at o j) g (le-trans (pow-mono {i = 26} {j = 64} (omega arith)) big) (near-at o j l))
-    ∙ large-square m k big) f
-
--- every finite f32 of magnitude 2 ^ 64 or more gives NaN for every bit
-pub large-soft : (o : ConstellationOrder) (s : ℕ) (x : Float) → s < axisBits o → T (fits binary32 x) → Large 64 x → soft o s x ≡ nan
-large-soft o s x h f l = overflow-soft o s x h (large-squares o x f l)

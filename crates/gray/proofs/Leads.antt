@@ -13,7 +13,8 @@ use Rattle.gray.specs.declared.ConstellationOrder.the-variants.{Qpsk, Qa
 use Rattle.gray.specs.declared.Candidate.{Candidate}
 use Rattle.gray.specs.Levels.{levels}
 use Rattle.gray.specs.Inner.{far, away, Leads}
-use Rattle.gray.proofs.Magnitudes.{kind-under, kind-not-back, lt-not-self, kind-far}
+use Rattle.gray.proofs.Magnitudes.{kind-under, kind-not-back, lt-not-self}
+use Rattle.gray.proofs.Differences.{kind-far}
 use Rattle.gray.proofs.Tests.{here-or-on}
 use Rattle.gray.proofs.Away.{away-order}
 

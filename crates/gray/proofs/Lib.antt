@@ -7,11 +7,15 @@ pub mod Exact
 pub mod Grid
 pub mod Indices
 pub mod Large
+pub mod Overflow
 pub mod Leads
 pub mod Least
+pub mod OneLeast
 pub mod Magnitudes
+pub mod Differences
 pub mod Nearest
 pub mod Patterns
+pub mod PatternOrder
 pub mod Points
 pub mod Rounding
 pub mod Scales

@@ -10,7 +10,7 @@ use lib.Ieee.{Float, nan, inf, fin, binary32, up, down, round, fits}
 use lib.Ieee.Exact.{HasValue}
 use lib.Ieee.Fits.{and-l, and-r, round-fits}
 use lib.Ieee.Scale.{grid, round-val}
-use Rattle.gray.proofs.Least.{same-value}
+use Rattle.gray.proofs.OneLeast.{same-value}
 
 pub few-digits : (m : ℕ) (e : ℤ) → T (fits binary32 (fin false m e)) → m < 2 ^ 24
 unfolding fits

@@ -19,7 +19,8 @@ use Rattle.gray.specs.declared.ConstellationOrder.{ConstellationOrder}
 use Rattle.gray.specs.declared.ConstellationOrder.the-variants.{Qpsk, Qam16, Qam64}
 use Rattle.gray.specs.Levels.{levels, scale}
 use Rattle.gray.specs.Scales.{pattern, energy, units, Below, Above, Nearer, Nearest}
-use Rattle.gray.proofs.Patterns.{units-is, units-is-negative, units-mono, finite-field}
+use Rattle.gray.proofs.Patterns.{units-is, units-is-negative}
+use Rattle.gray.proofs.PatternOrder.{units-mono, finite-field}
 
 square-mono : (a b N : ℕ) → a ≤ b → a * a * N ≤ b * b * N
 square-mono a b N h = mul-le-mul-right N (le-trans (mul-le-mul-right a h) (mul-le-mul-left b h))

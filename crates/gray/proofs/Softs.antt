@@ -18,9 +18,11 @@ use Rattle.gray.specs.declared.ConstellationOrder.the-variants.{Qpsk, Qa
 use Rattle.gray.specs.Levels.{levels, coordinate, axisBits, at}
 use Rattle.gray.specs.Hard.{entry}
 use Rattle.gray.specs.Soft.{square, having, squares, lesser, least, Least, soft}
-use Rattle.gray.proofs.Magnitudes.{kind, finite-at, kind-squared}
+use Rattle.gray.proofs.Magnitudes.{kind}
+use Rattle.gray.proofs.Differences.{finite-at, kind-squared}
 use Rattle.gray.proofs.Nearest.{entry-map}
-use Rattle.gray.proofs.Least.{suc-le-suc, some-least, least-unique}
+use Rattle.gray.proofs.Least.{suc-le-suc, some-least}
+use Rattle.gray.proofs.OneLeast.{least-unique}
 
 -- ---- what holds at every level holds at those that have a bit
 All : (ℤ → Type 0) → List ℤ → Type 0

@@ -23,7 +23,7 @@ use Rattle.tps.specs.Receive.{WordsBy, Words}
 use Rattle.tps.specs.Frame.{Frame, readBits}
 use Rattle.tps.proofs.Packing.{word-length, word-bits}
 use Rattle.tps.proofs.Determined.{unpack-packed}
-use Rattle.tps.proofs.Standing.{frame-held}
+use Rattle.tps.proofs.Symbols.{frame-held}
 
 -- what the sender sends, the receiver reads back, for every 68 bits: s0 reads 0
 pub frame-read : (bs : List ℕ) (e : TpsEncoder) (d : TpsDecoder) → Frame bs e d → length bs ≡ 68 → (d .count ≡ 68) × (d .bits ≡ readBits bs)

@@ -1,6 +1,8 @@
 pub mod Fields
 pub mod Packing
 pub mod Unpacking
+pub mod Decoding
+pub mod Told
 pub mod Determined
 pub mod Reading
 pub mod Received
@@ -9,6 +11,7 @@ pub mod Signs
 pub mod Sending
 pub mod Heard
 pub mod Standing
+pub mod Symbols
 pub mod Frame
 pub mod Frames
 pub mod Held

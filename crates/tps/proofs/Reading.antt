@@ -29,7 +29,7 @@ use Rattle.tps.specs.Inner.{ConstellationIs, RateIs}
 use Rattle.tps.specs.Reading.{constellationOf, rateOf, guardOf, wordOf, answerOf, unpackBy, unpackOf, heldWordOf}
 use Rattle.tps.specs.Receive.{WordsBy, Words}
 use Rattle.tps.proofs.Fields.{field-below}
-use Rattle.tps.proofs.Unpacking.{rest-length, rest-bits}
+use Rattle.tps.proofs.Decoding.{rest-length, rest-bits}
 use Rattle.tps.proofs.Determined.{unpack-determined, word-determined}
 
 -- ---- a code and what it says

@@ -2,8 +2,9 @@
 use native.Mathlib.Omega.{arith}
 use mathlib.Core.Path.{sym, subst}
 use Prim.Native.Nat.{ℕ, _<_, _^_}
-use Rattle.bch.proofs.Field.{mul-lt}
-use Rattle.bch.proofs.Search.{terms-lt, next-lt, none-found, one-found, two-found, lone-found}
+use Rattle.bch.proofs.Product.{mul-lt}
+use Rattle.bch.proofs.Search.{terms-lt, next-lt}
+use Rattle.bch.proofs.Located.{none-found, one-found, two-found, lone-found}
 use borrow.Author.Needs.{needs}
 use Rattle.bch.proofs.inner.roots.Statement.{statement}
 use Rattle.bch.proofs.inner.roots.Tie as tie

@@ -3,7 +3,8 @@ use mathlib.Core.Path.{_≡_, sym, ap, _∙_, subst}
 use Prim.Native.Nat.{ℕ, _-_, _%_, _<_, _^_}
 use borrow.Author.Needs.{needs}
 use Rattle.dispersal.specs.Register.{after}
-use Rattle.dispersal.proofs.Register.{next-lt, after-left, after-end}
+use Rattle.dispersal.proofs.Register.{next-lt}
+use Rattle.dispersal.proofs.Turns.{after-left, after-end}
 use Rattle.dispersal.proofs.DvbTEnergyDispersal.advance_byte.Statement.{statement}
 use Rattle.dispersal.proofs.DvbTEnergyDispersal.advance_byte.Tie as tie
 

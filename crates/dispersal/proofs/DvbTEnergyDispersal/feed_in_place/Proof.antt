@@ -9,8 +9,9 @@ use Rattle.ground.proofs.Front.{front}
 use Rattle.dispersal.specs.Register.{after, whitened}
 use Rattle.dispersal.specs.Inner.{mirror}
 use Rattle.dispersal.proofs.Mirror.{mirror-lt}
-use Rattle.dispersal.proofs.Register.{after-lt, mirrored-turn, mirrored-back, mirrored-start, mirrored-held}
-use Rattle.dispersal.proofs.Streams.{whitened-turn, whitened-end}
+use Rattle.dispersal.proofs.Register.{after-lt}
+use Rattle.dispersal.proofs.Turns.{mirrored-turn, mirrored-back, mirrored-start, mirrored-held}
+use Rattle.dispersal.proofs.Turns.{whitened-turn, whitened-end}
 use Rattle.dispersal.proofs.DvbTEnergyDispersal.feed_in_place.Statement.{statement}
 use Rattle.dispersal.proofs.DvbTEnergyDispersal.feed_in_place.Tie as tie
 

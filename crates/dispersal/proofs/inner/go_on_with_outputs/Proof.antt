@@ -6,7 +6,7 @@ use lib.ListN.{length, length-set}
 use Rattle.ground.proofs.Front.{front}
 use Rattle.dispersal.specs.Register.{start, outputs}
 use Rattle.dispersal.specs.Inner.{stream}
-use Rattle.dispersal.proofs.Streams.{stream-turn, stream-begun, stream-end}
+use Rattle.dispersal.proofs.Turns.{stream-turn, stream-begun, stream-end}
 use borrow.Author.Needs.{needs}
 use Rattle.dispersal.proofs.inner.go_on_with_outputs.Statement.{statement}
 use Rattle.dispersal.proofs.inner.go_on_with_outputs.Tie as tie

@@ -6,7 +6,7 @@ use lib.ListN.{length, length-set}
 use Rattle.ground.proofs.Front.{front}
 use Rattle.dispersal.specs.Register.{outputs}
 use Rattle.dispersal.specs.Inner.{xored}
-use Rattle.dispersal.proofs.Streams.{xored-turn, xored-end}
+use Rattle.dispersal.proofs.Turns.{xored-turn, xored-end}
 use borrow.Author.Needs.{needs}
 use Rattle.dispersal.proofs.inner.whiten.Statement.{statement}
 use Rattle.dispersal.proofs.inner.whiten.Tie as tie

@@ -3,7 +3,8 @@ use mathlib.Core.Path.{_≡_, sym, _∙_}
 use mathlib.Core.Bool.{true}
 use lib.ListN.{length}
 use Rattle.ground.specs.Bits.{areBits}
-use Rattle.tps.proofs.Unpacking.{first-not-bit, rest-not-bits, all-bits, unpack-length, unpack-not-bit, unpack-no-word, information-bits, unpack-constellation, unpack-rate, unpack-word}
+use Rattle.tps.proofs.Unpacking.{first-not-bit, rest-not-bits, all-bits, unpack-length, unpack-not-bit}
+use Rattle.tps.proofs.Decoding.{unpack-no-word, information-bits, unpack-constellation, unpack-rate, unpack-word}
 use borrow.Author.Tests.{not-true, not-false}
 use borrow.Author.Needs.{needs}
 use Rattle.tps.proofs.TpsWord.unpack.Statement.{statement}
@@ -21,24 +22,9 @@ bits c =
 returns : tie.Need-returns
 returns c = unpack-length (c .before .before .args .bits .now) (c .if1 .taken)
 
-shared-slice-read-if2 : tie.Need-shared-slice-read-if2
-shared-slice-read-if2 c = search needs
-
 returns-2 : tie.Need-returns-2
 returns-2 c =
     let z = c .before .before .before .before .args .bits .now in unpack-not-bit z (c .before .before .if1 .left) (first-not-bit z (c .if2 .taken))
-
-sub-code : tie.Need-sub-code
-sub-code c = search needs
-
-part-code-start : tie.Need-part-code-start
-part-code-start c = search needs
-
-part-code-end : tie.Need-part-code-end
-part-code-end c = search needs
-
-all-bits-requires : tie.Need-all-bits-requires
-all-bits-requires c κs = search needs
 
 returns-3 : tie.Need-returns-3
 returns-3 c =
@@ -47,18 +33,6 @@ returns-3 c =
     let r = c .before .all-bits in
     unpack-not-bit z l (rest-not-bits z l (sym (r .ensures) ∙ not-true (r .result) (c .if3 .taken)))
 
-slice-aggregate-tps-bch-decode : tie.Need-slice-aggregate-tps-bch-decode
-slice-aggregate-tps-bch-decode c = search needs
-
-tps-bch-decode-requires : tie.Need-tps-bch-decode-requires
-tps-bch-decode-requires c κs = search needs
-
-enum-told : tie.Need-enum-told
-enum-told c = search needs
-
-enum-told-2 : tie.Need-enum-told-2
-enum-told-2 c = search needs
-
 returns-4 : tie.Need-returns-4
 returns-4 c =
     let d = c .before .before .before in
@@ -66,24 +40,12 @@ returns-4 c =
     let r = d .tps-bch-decode in
     unpack-no-word z (sized d) (bits d) (r .result) (r .last .1 .0) (r .ensures) (c .enum-told2 .given .0 .0) (c .enum-told2 .given .1)
 
-slice-aggregate-read-codes : tie.Need-slice-aggregate-read-codes
-slice-aggregate-read-codes c = search needs
-
 read-codes-requires : tie.Need-read-codes-requires
 read-codes-requires c κs =
     let d = c .before .before .before .before in
     let z = d .before .before .before .before .before .before .before .before .before .args .bits .now in
     let r = d .tps-bch-decode in
     information-bits z (sized d) (bits d) (r .result) (r .last .1 .0) (r .ensures) (c .before .enum-told .given .0 .0) (c .before .enum-told .given .1)
-
-constellation-from-code-requires : tie.Need-constellation-from-code-requires
-constellation-from-code-requires c κs = search needs
-
-enum-known-constellation : tie.Need-enum-known-constellation
-enum-known-constellation c = search needs
-
-enum-told-3 : tie.Need-enum-told-3
-enum-told-3 c = search needs
 
 returns-5 : tie.Need-returns-5
 returns-5 c =
@@ -95,15 +57,6 @@ returns-5 c =
     let p = c .before .before .constellation-from-code in
     unpack-constellation z (sized d) (bits d) (r .result) (r .last .1 .0) (r .ensures) (t .0 .0) (t .1) (k .result) (k .ensures) (p .result) (p .ensures) (c .enum-told3 .given .1)
 
-rate-from-code-requires : tie.Need-rate-from-code-requires
-rate-from-code-requires c κs = search needs
-
-enum-known-code-rate-hp : tie.Need-enum-known-code-rate-hp
-enum-known-code-rate-hp c = search needs
-
-enum-told-4 : tie.Need-enum-told-4
-enum-told-4 c = search needs
-
 returns-6 : tie.Need-returns-6
 returns-6 c =
     let d = c .before .before .before .before .before .before .before .before .before .before .before .before in
@@ -113,9 +66,6 @@ returns-6 c =
     let k = c .before .before .before .before .before .before .before .read-codes in
     let q = c .before .before .rate-from-code in
     unpack-rate z (sized d) (bits d) (r .result) (r .last .1 .0) (r .ensures) (t .0 .0) (t .1) (k .result) (k .ensures) (q .result) (q .ensures) (c .enum-told4 .given .1)
-
-guard-from-code-requires : tie.Need-guard-from-code-requires
-guard-from-code-requires c κs = search needs
 
 returns-7 : tie.Need-returns-7
 returns-7 c =
@@ -136,27 +86,27 @@ unpack-spec =
     tie.close
     (tie.spec
     returns
-    shared-slice-read-if2
+    (λ c. search needs)
     returns-2
-    sub-code
-    part-code-start
-    part-code-end
-    all-bits-requires
+    (λ c. search needs)
+    (λ c. search needs)
+    (λ c. search needs)
+    (λ c κs. search needs)
     returns-3
-    slice-aggregate-tps-bch-decode
-    tps-bch-decode-requires
-    enum-told
-    enum-told-2
+    (λ c. search needs)
+    (λ c κs. search needs)
+    (λ c. search needs)
+    (λ c. search needs)
     returns-4
-    slice-aggregate-read-codes
+    (λ c. search needs)
     read-codes-requires
-    constellation-from-code-requires
-    enum-known-constellation
-    enum-told-3
+    (λ c κs. search needs)
+    (λ c. search needs)
+    (λ c. search needs)
     returns-5
-    rate-from-code-requires
-    enum-known-code-rate-hp
-    enum-told-4
+    (λ c κs. search needs)
+    (λ c. search needs)
+    (λ c. search needs)
     returns-6
-    guard-from-code-requires
+    (λ c κs. search needs)
     returns-7)
