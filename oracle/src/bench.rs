@@ -6,18 +6,14 @@ mod bench_report;
 mod bench_session;
 mod bench_tps;
 #[allow(dead_code)]
+#[path = "../../rust/src/call.rs"]
+mod call;
+#[allow(dead_code)]
+mod fields;
+#[allow(dead_code)]
 mod points;
 #[allow(dead_code)]
 mod random;
-#[allow(dead_code)]
-mod salt;
-mod salt_codes;
-#[allow(dead_code)]
-mod salt_pilots;
-#[allow(dead_code)]
-mod salt_session;
-#[allow(dead_code)]
-mod salt_tps;
 #[allow(dead_code)]
 #[path = "../../rust/src/sys.rs"]
 mod sys;
@@ -30,7 +26,7 @@ use points::Points;
 use random::Random;
 use std::hint::black_box;
 use std::time::Instant;
-use sys::{SaltCell, SaltDvbTEnergyDispersal};
+use sys::SaltCell;
 
 /// Bytes of a packet.
 const PACKET: usize = 188;
@@ -225,7 +221,7 @@ fn disperse(packets: usize, asked: Option<f64>) -> Row {
         black_box(orion::ts_energy_disperse(black_box(&mut theirs)));
     };
     Row::new("ts_energy_disperse", packets * PACKET, asked, orion, move || {
-        black_box(salt::ts_energy_disperse(black_box(&mut ours)));
+        black_box(call::ts_energy_disperse(black_box(&mut ours)));
     })
 }
 
@@ -235,7 +231,7 @@ fn packetize(bytes: usize) -> Row {
     let (theirs, mut out) = (payload.clone(), orion::ts_packetize(&payload));
     let orion = move || drop(black_box(orion::ts_packetize(black_box(&theirs))));
     Row::new("ts_packetize", bytes, Some(0.8), orion, move || {
-        black_box(salt::ts_packetize(black_box(&payload), black_box(&mut out)));
+        black_box(call::ts_packetize(black_box(&payload), black_box(&mut out)));
     })
 }
 
@@ -245,7 +241,7 @@ fn depacketize(packets: usize) -> Row {
     let (theirs, mut out) = (stream.clone(), vec![0; packets * (PACKET - 1)]);
     let orion = move || drop(black_box(orion::ts_depacketize(black_box(&theirs))));
     Row::new("ts_depacketize", packets * PACKET, Some(0.8), orion, move || {
-        black_box(salt::ts_depacketize(black_box(&stream), black_box(&mut out)));
+        black_box(call::ts_depacketize(black_box(&stream), black_box(&mut out)));
     })
 }
 
@@ -258,16 +254,16 @@ fn stuff(have: usize, target: usize) -> Row {
         orion::ts_stuff_null_packets(black_box(&mut theirs), black_box(target));
     };
     Row::new("ts_stuff_null_packets", (target - have) * PACKET, None, orion, move || {
-        black_box(salt::ts_stuff_null_packets(black_box(&mut ours), black_box(have * PACKET), black_box(target)));
+        black_box(call::ts_stuff_null_packets(black_box(&mut ours), black_box(have * PACKET), black_box(target)));
     })
 }
 
 /// Whitening so many bytes in place, the register going on from one time to the next.
 fn feed_in_place(bytes: usize) -> Row {
     let (mut theirs, mut ours) = (some_bytes(bytes), some_bytes(bytes));
-    let (mut their_state, mut our_state) = (DvbTEnergyDispersal::new(), SaltDvbTEnergyDispersal::new());
+    let (mut their_state, mut our_state) = (DvbTEnergyDispersal::new(), call::energy_dispersal_new());
     let orion = move || their_state.feed_in_place(black_box(&mut theirs));
-    Row::new("feed_in_place", bytes, None, orion, move || our_state = our_state.feed_in_place(black_box(&mut ours)))
+    Row::new("feed_in_place", bytes, None, orion, move || our_state = call::energy_dispersal_feed_in_place(our_state, black_box(&mut ours)))
 }
 
 /// Mapping random groups of so many bits.
@@ -281,7 +277,7 @@ fn map_symbol(size: usize, asked: Option<f64>) -> Row {
     };
     Row::calls("dvb_t_map_symbol", size, asked, orion, move || {
         for bits in ours.chunks_exact(size) {
-            black_box(salt::dvb_t_map_symbol(black_box(bits)));
+            black_box(call::dvb_t_map_symbol(black_box(bits)));
         }
     })
 }
@@ -302,7 +298,7 @@ fn demap_symbol(size: usize, asked: Option<f64>) -> Row {
     };
     Row::calls("dvb_t_demap_symbol", size, asked, orion, move || {
         for (re, im) in &ours {
-            black_box(salt::dvb_t_demap_symbol(black_box(SaltCell { re: *re, im: *im }), black_box(size), black_box(&mut out)));
+            black_box(call::dvb_t_demap_symbol(black_box(SaltCell { re: *re, im: *im }), black_box(size), black_box(&mut out)));
         }
     })
 }
@@ -317,7 +313,7 @@ fn soft_llr(size: usize, asked: Option<f64>) -> Row {
     };
     Row::calls("dvb_t_soft_llr", size, asked, orion, move || {
         for (re, im) in &ours {
-            black_box(salt::dvb_t_soft_llr(black_box(SaltCell { re: *re, im: *im }), black_box(size)));
+            black_box(call::dvb_t_soft_llr(black_box(SaltCell { re: *re, im: *im }), black_box(size)));
         }
     })
 }

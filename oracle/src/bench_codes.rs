@@ -1,8 +1,8 @@
 //! The rows of the benchmark for the code of the TPS words.
 
 use super::{Row, Side};
+use crate::call;
 use crate::random::Random;
-use crate::salt_codes as salt;
 use orion_sdr::waveform::dvb_t_tps::{self as orion, TPS_CODEWORD_BITS, TPS_INFO_BITS};
 use std::hint::black_box;
 
@@ -31,19 +31,20 @@ fn informations() -> Vec<[u8; TPS_INFO_BITS]> {
     (0..WORDS).map(|_| std::array::from_fn(|_| random.next() as u8 & 1)).collect()
 }
 
-/// Codewords with so many bits turned over, at different places.
+/// The bits with so many turned over from a place on, at different places.
+pub fn turned<const N: usize>(random: &mut Random, sent: [u8; N], from: usize, wrong: usize) -> [u8; N] {
+    let mut bits = sent;
+    while bits.iter().zip(&sent).filter(|(now, before)| now != before).count() < wrong {
+        let place = random.between(from, N - 1);
+        bits[place] = 1 - sent[place];
+    }
+    bits
+}
+
+/// Codewords with so many bits turned over.
 fn received(wrong: usize) -> Vec<[u8; TPS_CODEWORD_BITS]> {
     let mut random = Random::new(5);
-    let turned = |info: [u8; TPS_INFO_BITS]| {
-        let sent = orion::tps_bch_encode(&info);
-        let mut word = sent;
-        while word.iter().zip(&sent).filter(|(now, before)| now != before).count() < wrong {
-            let place = random.below(word.len());
-            word[place] = 1 - sent[place];
-        }
-        word
-    };
-    informations().into_iter().map(turned).collect()
+    informations().iter().map(|info| turned(&mut random, orion::tps_bch_encode(info), 0, wrong)).collect()
 }
 
 /// Encoding random informations.
@@ -56,7 +57,7 @@ fn encode() -> Row {
     };
     row("tps_bch_encode", TPS_INFO_BITS, 2.0, orion, move || {
         for info in &ours {
-            black_box(salt::tps_bch_encode(black_box(info), black_box(&mut out)));
+            black_box(call::tps_bch_encode(black_box(info), black_box(&mut out)));
         }
     })
 }
@@ -71,7 +72,7 @@ fn decode(name: &'static str, wrong: usize) -> Row {
     };
     row(name, TPS_CODEWORD_BITS, 4.0, orion, move || {
         for word in &ours {
-            black_box(salt::tps_bch_decode(black_box(word), black_box(&mut out)));
+            black_box(call::tps_bch_decode(black_box(word), black_box(&mut out)));
         }
     })
 }

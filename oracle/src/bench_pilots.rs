@@ -1,9 +1,8 @@
 //! The rows of the benchmark for mapping and extracting symbols; both sides' objects are made once and write into lent outputs.
 
 use super::{Row, Side, copying};
+use crate::call;
 use crate::random::Random;
-use crate::salt_pilots as salt;
-use crate::sys::{SaltScatteredPilotExtractor, SaltScatteredPilotMapper};
 use num_complex::Complex32;
 use orion_sdr::core::Block;
 use orion_sdr::multicarrier::{CarrierGrid, GridExtract, GridMap};
@@ -45,17 +44,17 @@ fn some_cells(count: usize) -> (Vec<Complex32>, Vec<f32>) {
 /// Mapping, phase after phase.
 fn map_symbol() -> Row {
     let ((their_data, our_data), (mut their_symbol, mut our_symbol)) = (some_cells(DATA), some_cells(SYMBOL));
-    let (mut theirs, mut ours) = (ScatteredPilotMapper::new(GUARD), SaltScatteredPilotMapper::new());
+    let (mut theirs, mut ours) = (ScatteredPilotMapper::new(GUARD), call::mapper_new());
     let orion = move || theirs.map_symbol(black_box(&their_data), black_box(&mut their_symbol));
-    row("map_symbol", SYMBOL, orion, move || ours = ours.map_symbol(black_box(&our_data), black_box(&mut our_symbol)).mapper)
+    row("map_symbol", SYMBOL, orion, move || ours = call::mapper_map_symbol(ours, black_box(&our_data), black_box(&mut our_symbol)).mapper)
 }
 
 /// Extraction, phase after phase.
 fn extract_symbol() -> Row {
     let ((their_symbol, our_symbol), (mut their_data, mut our_data)) = (some_cells(SYMBOL), some_cells(DATA));
-    let (mut theirs, mut ours) = (ScatteredPilotExtractor::new(GUARD), SaltScatteredPilotExtractor::new());
+    let (mut theirs, mut ours) = (ScatteredPilotExtractor::new(GUARD), call::extractor_new());
     let orion = move || theirs.extract_symbol(black_box(&their_symbol), black_box(&mut their_data));
-    row("extract_symbol", DATA, orion, move || ours = ours.extract_symbol(black_box(&our_symbol), black_box(&mut our_data)).extractor)
+    row("extract_symbol", DATA, orion, move || ours = call::extractor_extract_symbol(ours, black_box(&our_symbol), black_box(&mut our_data)).extractor)
 }
 
 /// Mapping of the static grid.
@@ -66,7 +65,7 @@ fn grid_map() -> Row {
         black_box(theirs.process(black_box(&their_data), black_box(&mut their_symbol)));
     };
     row("GridMap::process", SYMBOL, orion, move || {
-        black_box(salt::grid_map(black_box(&our_data), black_box(&mut our_symbol)));
+        black_box(call::grid_map(black_box(&our_data), black_box(&mut our_symbol)));
     })
 }
 
@@ -78,6 +77,6 @@ fn grid_extract() -> Row {
         black_box(theirs.process(black_box(&their_symbol), black_box(&mut their_data)));
     };
     row("GridExtract::process", STATIC_DATA, orion, move || {
-        black_box(salt::grid_extract(black_box(&our_symbol), black_box(&mut our_data)));
+        black_box(call::grid_extract(black_box(&our_symbol), black_box(&mut our_data)));
     })
 }

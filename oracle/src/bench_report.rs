@@ -2,11 +2,8 @@
 //! nowhere, on words of which each has 0 to 3 bits wrong. Both must print the same.
 
 use super::{Row, Side};
+use crate::fields::orion_word;
 use crate::random::Random;
-use orion_sdr::fec::PunctureRate;
-use orion_sdr::modulate::ConstellationOrder;
-use orion_sdr::waveform::dvb_t::GuardInterval;
-use orion_sdr::waveform::dvb_t_tps::TpsWord;
 use std::fs::{self, File};
 use std::path::{Path, PathBuf};
 use std::process::{Command, Stdio};
@@ -29,13 +26,10 @@ pub fn row() -> Row {
 /// A line a word, with 0 to 3 bits turned over.
 fn words() -> Vec<u8> {
     let mut random = Random::new(10);
-    let constellations = [ConstellationOrder::Qpsk, ConstellationOrder::Qam16, ConstellationOrder::Qam64];
-    let rates = [PunctureRate::R1_2, PunctureRate::R2_3, PunctureRate::R3_4, PunctureRate::R5_6, PunctureRate::R7_8];
-    let guards = [GuardInterval::G1_32, GuardInterval::G1_16, GuardInterval::G1_8, GuardInterval::G1_4];
     let mut text = Vec::with_capacity(18 * LINES);
     for _ in 0..LINES {
-        let (constellation, code_rate_hp, guard) = (constellations[random.below(3)], rates[random.below(5)], guards[random.below(4)]);
-        let mut bits = TpsWord { frame_number: random.next() as u8, constellation, code_rate_hp, guard, cell_id: random.next() as u8 }.pack();
+        let [constellation, rate, guard] = [3, 5, 4].map(|codes| random.below(codes) as u8);
+        let mut bits = orion_word([random.next() as u8, constellation, rate, guard, random.next() as u8]).expect("codes of the enums").pack();
         for _ in 0..random.below(4) {
             bits[random.between(1, WORD - 1)] ^= 1;
         }

@@ -2,8 +2,8 @@
 //! and a step back against our own feeds of all symbols that stand.
 
 use super::{Row, Side, copying};
+use crate::call;
 use crate::random::Random;
-use crate::sys::SaltSession;
 use num_complex::Complex32;
 use orion_sdr::waveform::dvb_t::{GuardInterval, ScatteredPilotExtractor, tps_carrier_bins};
 use orion_sdr::waveform::dvb_t_tps::TpsDecoder;
@@ -38,11 +38,11 @@ pub fn feed() -> Row {
             black_box(&mut decoder).feed_symbol(black_box(&picked[place % 4]));
         }
     };
-    let (mut session, mut out, mut journal) = (SaltSession::new(), vec![0.0; 2 * DATA], vec![0.0; JOURNAL]);
+    let (mut session, mut out, mut journal) = (call::session_new(), vec![0.0; 2 * DATA], vec![0.0; JOURNAL]);
     let ours = move || {
-        session = session.reset();
+        session = call::session_reset(session);
         for place in 0..FRAME {
-            session = session.feed(black_box(&ours[place % 4]), black_box(&mut out), black_box(&mut journal)).session;
+            session = call::session_feed(session, black_box(&ours[place % 4]), black_box(&mut out), black_box(&mut journal)).session;
         }
     };
     let mut copy = copying(DATA * size_of::<Complex32>());
@@ -54,7 +54,8 @@ pub fn feed() -> Row {
 pub fn step_back() -> Row {
     let (symbols, mut out, mut journal) = (symbols(STANDING), vec![0.0; 2 * DATA], vec![0.0; JOURNAL]);
     let mut again = move |journal: &mut [f32]| {
-        symbols.iter().fold(SaltSession::new(), |session, symbol| session.feed(black_box(symbol), black_box(&mut out), black_box(journal)).session)
+        let fed = |session, symbol: &Vec<f32>| call::session_feed(session, black_box(symbol), black_box(&mut out), black_box(journal)).session;
+        symbols.iter().fold(call::session_new(), fed)
     };
     let session = again(&mut journal);
     let mut other = journal.clone();
@@ -62,7 +63,7 @@ pub fn step_back() -> Row {
         black_box(again(&mut other));
     };
     let back = move || {
-        black_box(black_box(session).step_back(black_box(&journal)));
+        black_box(call::session_step_back(black_box(session), black_box(&journal)));
     };
     Row { name: "Session::step_back", size: STANDING, amount: 1000, asked: Some(20.0), orion: Side::new(again), ours: Side::new(back), copy: None }
 }

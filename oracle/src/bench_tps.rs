@@ -1,12 +1,12 @@
 //! The rows of the benchmark for the TPS word, its sender and its receiver.
 
 use super::{Row, Side};
+use crate::bench_codes::turned;
+use crate::call;
+use crate::fields::orion_word;
 use crate::random::Random;
-use crate::sys::{SaltTpsDecoder, SaltTpsEncoder, SaltTpsWord};
+use crate::sys::{SaltTpsDecoder, SaltTpsWord};
 use num_complex::Complex32;
-use orion_sdr::fec::PunctureRate;
-use orion_sdr::modulate::ConstellationOrder;
-use orion_sdr::waveform::dvb_t::GuardInterval;
 use orion_sdr::waveform::dvb_t_tps::{TpsDecoder, TpsEncoder, TpsWord};
 use std::hint::black_box;
 
@@ -26,10 +26,10 @@ pub fn rows() -> Vec<Row> {
         unpack("TpsWord::unpack, none wrong", 0),
         unpack("TpsWord::unpack, 2 wrong", 2),
         next_symbol(),
-        feed_symbol("TpsDecoder::feed_symbol", Some(0.8), |decoder, cells| {
-            black_box(decoder.feed_in_place(cells));
+        feed_symbol("TpsDecoder::feed_symbol", Some(0.8), |SaltTpsDecoder { prev, bits, count }, cells| {
+            black_box(call::tps_decoder_feed_in_place(prev, bits, count, cells));
         }),
-        feed_symbol("TpsDecoder::feed_symbol, by value", None, |decoder, cells| *decoder = decoder.feed_symbol(cells).decoder),
+        feed_symbol("TpsDecoder::feed_symbol, by value", None, |decoder, cells| *decoder = call::tps_decoder_feed_symbol(*decoder, cells).decoder),
     ]
 }
 
@@ -41,32 +41,19 @@ fn row(name: &'static str, size: usize, calls: usize, asked: Option<f64>, orion:
 /// Random words: as orion-sdr's, and as the port's.
 fn words() -> Vec<(TpsWord, SaltTpsWord)> {
     let mut random = Random::new(8);
-    let constellations = [ConstellationOrder::Qpsk, ConstellationOrder::Qam16, ConstellationOrder::Qam64];
-    let rates = [PunctureRate::R1_2, PunctureRate::R2_3, PunctureRate::R3_4, PunctureRate::R5_6, PunctureRate::R7_8];
-    let guards = [GuardInterval::G1_32, GuardInterval::G1_16, GuardInterval::G1_8, GuardInterval::G1_4];
     let mut word = || {
         let [frame_number, cell_id] = [random.next() as u8, random.next() as u8];
-        let (points, rate, guard) = (random.below(3), random.below(5), random.below(4));
-        let ours = SaltTpsWord::of([frame_number, points as u8, rate as u8, guard as u8, cell_id]);
-        let (constellation, code_rate_hp, guard) = (constellations[points], rates[rate], guards[guard]);
-        (TpsWord { frame_number, constellation, code_rate_hp, guard, cell_id }, ours)
+        let [constellation, code_rate_hp, guard] = [3, 5, 4].map(|codes| random.below(codes) as u8);
+        let theirs = orion_word([frame_number, constellation, code_rate_hp, guard, cell_id]).expect("codes of the enums");
+        (theirs, SaltTpsWord { frame_number, constellation, code_rate_hp, guard, cell_id })
     };
     (0..WORDS).map(|_| word()).collect()
 }
 
-/// The bits of random words with so many turned over behind s0, at different places.
+/// The bits of random words with so many turned over behind s0.
 fn received(wrong: usize) -> Vec<[u8; WORD]> {
     let mut random = Random::new(9);
-    let turned = |(word, _): (TpsWord, SaltTpsWord)| {
-        let sent = word.pack();
-        let mut bits = sent;
-        while bits.iter().zip(&sent).filter(|(now, before)| now != before).count() < wrong {
-            let place = random.between(1, WORD - 1);
-            bits[place] = 1 - sent[place];
-        }
-        bits
-    };
-    words().into_iter().map(turned).collect()
+    words().into_iter().map(|(word, _)| turned(&mut random, word.pack(), 1, wrong)).collect()
 }
 
 /// Packing random words.
@@ -79,7 +66,7 @@ fn pack() -> Row {
     };
     row("TpsWord::pack", WORD, WORDS, None, orion, move || {
         for (_, word) in &ours {
-            black_box(black_box(*word).pack(black_box(&mut out)));
+            black_box(call::tps_word_pack(black_box(*word), black_box(&mut out)));
         }
     })
 }
@@ -94,7 +81,7 @@ fn unpack(name: &'static str, wrong: usize) -> Row {
     };
     row(name, WORD, WORDS, None, orion, move || {
         for bits in &ours {
-            black_box(SaltTpsWord::unpack(black_box(bits)));
+            black_box(call::tps_word_unpack(black_box(bits)));
         }
     })
 }
@@ -107,7 +94,7 @@ fn frames() -> Vec<[u8; WORD]> {
 /// Sending frames, each from a reset.
 fn next_symbol() -> Row {
     let (theirs, ours, mut out) = (frames(), frames(), [0.0; CELLS]);
-    let (mut their_encoder, mut our_encoder) = (TpsEncoder::new(), SaltTpsEncoder::new());
+    let (mut their_encoder, mut our_encoder) = (TpsEncoder::new(), call::tps_encoder_new());
     let orion = move || {
         for bits in &theirs {
             their_encoder.reset();
@@ -118,8 +105,8 @@ fn next_symbol() -> Row {
     };
     row("TpsEncoder::next_symbol", 1, FRAMES * WORD, None, orion, move || {
         for bits in &ours {
-            our_encoder = our_encoder.reset();
-            bits.iter().for_each(|bit| our_encoder = our_encoder.next_symbol(black_box(*bit), black_box(&mut out)).encoder);
+            our_encoder = call::tps_encoder_reset(our_encoder);
+            bits.iter().for_each(|bit| our_encoder = call::tps_encoder_next_symbol(our_encoder, black_box(*bit), black_box(&mut out)).encoder);
         }
     })
 }
@@ -141,7 +128,7 @@ fn feed_symbol(name: &'static str, asked: Option<f64>, feed: impl Fn(&mut SaltTp
     let theirs = symbols();
     let floats = |cells: &[Complex32; CELLS / 2]| cells.iter().flat_map(|cell| [cell.re, cell.im]).collect();
     let ours: Vec<Vec<Vec<f32>>> = theirs.iter().map(|frame| frame.iter().map(floats).collect()).collect();
-    let (mut their_decoder, mut our_decoder) = (TpsDecoder::new(), SaltTpsDecoder::new());
+    let (mut their_decoder, mut our_decoder) = (TpsDecoder::new(), call::tps_decoder_new());
     let orion = move || {
         for frame in &theirs {
             their_decoder.reset();
@@ -150,7 +137,7 @@ fn feed_symbol(name: &'static str, asked: Option<f64>, feed: impl Fn(&mut SaltTp
     };
     row(name, 1, FRAMES * WORD, asked, orion, move || {
         for frame in &ours {
-            our_decoder = our_decoder.reset();
+            our_decoder = call::tps_decoder_reset(our_decoder);
             frame.iter().for_each(|cells| feed(black_box(&mut our_decoder), black_box(cells)));
         }
     })

@@ -4,22 +4,15 @@ use crate::answer::{Answer, shown};
 use crate::harness::{Expected, Run, Subject};
 use crate::lent::{EMPTY, Lent, Room, UNTOUCHED, background, surroundings};
 use crate::random::Random;
+use crate::refusals::{LENGTH, NO_WORD, NOT_A_BIT, OUTPUT_SHORT};
 use crate::sys::SaltCounted;
-use crate::{salt_codes as salt, shrink};
+use crate::{call, shrink};
 use orion_sdr::waveform::dvb_t_tps as orion;
 
 /// Bits of the information.
 const INFORMATION: usize = 53;
 /// Bits of a codeword.
 const CODEWORD: usize = 67;
-/// Document 01's LENGTH.
-pub const LENGTH: u8 = 1;
-/// Document 01's NOT A BIT.
-pub const NOT_A_BIT: u8 = 2;
-/// Document 01's OUTPUT SHORT.
-pub const OUTPUT_SHORT: u8 = 3;
-/// Document 01's NO WORD.
-pub const NO_WORD: u8 = 4;
 /// So many random informations are encoded, and so many words far from their codeword decoded.
 const WORDS: usize = 1_000_000;
 /// Each remainder is tried with so many informations.
@@ -29,8 +22,8 @@ const CODEWORDS: usize = 40;
 
 /// Compares all functions of this module.
 pub fn compare(run: &mut Run) {
-    run.compare(Encode);
-    run.compare(Decode);
+    run.compare("tps_bch_encode", Encode);
+    run.compare("tps_bch_decode", Decode);
 }
 
 /// A function of the port that reads bits and writes bits.
@@ -194,10 +187,6 @@ impl Encode {
 impl Subject for Encode {
     type Case = Coding;
 
-    fn name(&self) -> &'static str {
-        "tps_bch_encode"
-    }
-
     /// All lengths to 61 and longer ones, every byte above 1 at every place, and informations in every kind of room.
     fn each_case(&self, random: &mut Random, compare: &mut dyn FnMut(Coding)) {
         lengths_and_items(random, INFORMATION, CODEWORD, compare);
@@ -214,7 +203,7 @@ impl Subject for Encode {
         let mut compared = 0;
         Self::each_information(random, |info| {
             compared += 1;
-            if !same(&info, Some(orion::tps_bch_encode(&info)), salt::tps_bch_encode) {
+            if !same(&info, Some(orion::tps_bch_encode(&info)), call::tps_bch_encode) {
                 differs(Coding { bits: info.to_vec(), room: Room::Exact });
             }
         });
@@ -222,7 +211,7 @@ impl Subject for Encode {
     }
 
     fn ours(&self, case: &Coding) -> Answer {
-        case.ours(CODEWORD, salt::tps_bch_encode)
+        case.ours(CODEWORD, call::tps_bch_encode)
     }
 
     /// orion-sdr panics on any other length than 53 and passes items above 1 on; it isn't called for either.
@@ -277,10 +266,6 @@ impl Decode {
 impl Subject for Decode {
     type Case = Coding;
 
-    fn name(&self) -> &'static str {
-        "tps_bch_decode"
-    }
-
     /// All lengths to 75 and longer ones, every byte above 1 at every place, and words with up to six wrong bits in every kind of room.
     fn each_case(&self, random: &mut Random, compare: &mut dyn FnMut(Coding)) {
         lengths_and_items(random, CODEWORD, INFORMATION, compare);
@@ -297,7 +282,7 @@ impl Subject for Decode {
         let mut compared = 0;
         Self::each_word(random, |word| {
             compared += 1;
-            if !same(&word, orion::tps_bch_decode(&word), salt::tps_bch_decode) {
+            if !same(&word, orion::tps_bch_decode(&word), call::tps_bch_decode) {
                 differs(Coding { bits: word.to_vec(), room: Room::Exact });
             }
         });
@@ -305,7 +290,7 @@ impl Subject for Decode {
     }
 
     fn ours(&self, case: &Coding) -> Answer {
-        case.ours(INFORMATION, salt::tps_bch_decode)
+        case.ours(INFORMATION, call::tps_bch_decode)
     }
 
     /// orion-sdr's None is LENGTH where the length isn't 67, whatever the items are; it passes items above 1 on and isn't called for them.

@@ -2,23 +2,21 @@
 //! Its register is private there, so two whiteners are compared by what they make of later bytes.
 
 use crate::answer::{Answer, shown};
-use crate::harness::{Expected, Run, Subject};
+use crate::harness::{Cases, Expected, Run, Subject};
 use crate::lent::{EMPTY, Lent, Room, UNTOUCHED, background, surroundings};
 use crate::random::Random;
-use crate::shrink;
+use crate::refusals::OUTPUT_SHORT;
 use crate::sys::SaltDvbTEnergyDispersal;
+use crate::{call, shrink};
 use orion_sdr::waveform::dvb_t::DvbTEnergyDispersal;
-
-/// Document 01's OUTPUT SHORT.
-const OUTPUT_SHORT: u8 = 3;
 
 /// Compares all functions of this module, each over sequences of itself and those before it.
 pub fn compare(run: &mut Run) {
-    run.compare(Whitener { name: "DvbTEnergyDispersal::new", cases: new_cases });
-    run.compare(Whitener { name: "DvbTEnergyDispersal::feed_in_place", cases: feed_in_place_cases });
-    run.compare(Whitener { name: "DvbTEnergyDispersal::advance_byte", cases: advance_byte_cases });
-    run.compare(Whitener { name: "DvbTEnergyDispersal::reset", cases: reset_cases });
-    run.compare(Whitener { name: "DvbTEnergyDispersal::feed", cases: feed_cases });
+    run.compare("DvbTEnergyDispersal::new", Whitener { cases: new_cases });
+    run.compare("DvbTEnergyDispersal::feed_in_place", Whitener { cases: feed_in_place_cases });
+    run.compare("DvbTEnergyDispersal::advance_byte", Whitener { cases: advance_byte_cases });
+    run.compare("DvbTEnergyDispersal::reset", Whitener { cases: reset_cases });
+    run.compare("DvbTEnergyDispersal::feed", Whitener { cases: feed_cases });
 }
 
 /// One call on a whitener (`AdvanceByte` so many times).
@@ -34,18 +32,18 @@ impl Step {
     /// Makes the call on the port's whitener, and adds what it answers.
     fn ours(&self, whitener: SaltDvbTEnergyDispersal, answer: Answer) -> (SaltDvbTEnergyDispersal, Answer) {
         match self {
-            Step::Reset => (whitener.reset(), answer),
-            Step::AdvanceByte(times) => ((0..*times).fold(whitener, |state, _| state.advance_byte()), answer),
+            Step::Reset => (call::energy_dispersal_reset(whitener), answer),
+            Step::AdvanceByte(times) => ((0..*times).fold(whitener, |state, _| call::energy_dispersal_advance_byte(state)), answer),
             Step::FeedInPlace(bytes) => {
                 let mut data = Lent::to_write("data", bytes);
-                let after = whitener.feed_in_place(data.slice_mut());
+                let after = call::energy_dispersal_feed_in_place(whitener, data.slice_mut());
                 let found = surroundings(&mut [&mut data]);
                 (after, answer.bytes("data", data.slice()).surroundings(&found))
             }
             Step::Feed(bytes, room) => {
                 let mut data = Lent::to_read("data", bytes);
                 let mut out = Lent::to_write("output", &background(room.size(bytes.len())));
-                let fed = whitener.feed(data.slice(), out.slice_mut());
+                let fed = call::energy_dispersal_feed(whitener, data.slice(), out.slice_mut());
                 let found = surroundings(&mut [&mut data, &mut out]);
                 let answer = answer.number("number", u64::from(fed.answer.number)).number("count", fed.answer.count as u64);
                 (fed.whitener, answer.bytes("output", out.slice()).surroundings(&found))
@@ -106,25 +104,20 @@ impl Step {
     }
 }
 
-/// A function of the whitener, and the sequences of calls that try it.
+/// A function of the whitener, by the sequences of calls that try it.
 struct Whitener {
-    name: &'static str,
-    cases: fn(&mut Random, &mut dyn FnMut(Vec<Step>)),
+    cases: Cases<Vec<Step>>,
 }
 
 impl Subject for Whitener {
     type Case = Vec<Step>;
-
-    fn name(&self) -> &'static str {
-        self.name
-    }
 
     fn each_case(&self, random: &mut Random, compare: &mut dyn FnMut(Vec<Step>)) {
         (self.cases)(random, compare);
     }
 
     fn ours(&self, case: &Vec<Step>) -> Answer {
-        let start = (SaltDvbTEnergyDispersal::new(), Answer::default());
+        let start = (call::energy_dispersal_new(), Answer::default());
         case.iter().chain([&probe()]).fold(start, |(whitener, answer), step| step.ours(whitener, answer)).1
     }
 
@@ -135,10 +128,7 @@ impl Subject for Whitener {
     }
 
     fn smaller<'a>(&'a self, case: &'a Vec<Step>) -> Box<dyn Iterator<Item = Vec<Step>> + 'a> {
-        let without = (0..case.len()).map(|place| [&case[..place], &case[place + 1..]].concat());
-        let within = (0..case.len()).flat_map(move |place| case[place].smaller().map(move |step| replaced(case, place, step)));
-        let prefixes = (0..case.len()).map(|length| case[..length].to_vec());
-        Box::new(prefixes.chain(without).chain(within))
+        shrink::calls(case, Step::smaller)
     }
 
     fn show(&self, case: &Vec<Step>) -> String {
@@ -150,13 +140,6 @@ impl Subject for Whitener {
 /// The last call of each case, eight zeros fed: 64 outputs show all of a 15-bit register.
 fn probe() -> Step {
     Step::FeedInPlace(vec![0; 8])
-}
-
-/// The calls with one of them replaced.
-fn replaced(case: &[Step], place: usize, step: Step) -> Vec<Step> {
-    let mut steps = case.to_vec();
-    steps[place] = step;
-    steps
 }
 
 /// The start alone, then some bytes fed at once.

@@ -5,31 +5,26 @@ use crate::harness::{Expected, Run, Subject};
 use crate::lent::{EMPTY, Lent, Room, UNTOUCHED, background, surroundings};
 use crate::points::{Points, SIZES, groups, pattern};
 use crate::random::Random;
+use crate::refusals::{LENGTH, NOT_A_BIT, OUTPUT_SHORT};
 use crate::sys::{SaltCell, SaltSoft};
-use crate::{salt, shrink};
+use crate::{call, shrink};
 use num_complex::Complex32;
 use orion_sdr::waveform::dvb_t as orion;
 
-/// Document 01's LENGTH.
-const LENGTH: u8 = 1;
-/// Document 01's NOT A BIT.
-const NOT_A_BIT: u8 = 2;
-/// Document 01's OUTPUT SHORT.
-const OUTPUT_SHORT: u8 = 3;
 /// So many random points of each group size are compared in bulk.
 const POINTS: usize = 2_000_000;
 
 /// Compares all functions of this module, demapping by group sizes.
 pub fn compare(run: &mut Run) {
-    run.compare(Map);
-    run.compare(Demap { name: "dvb_t_demap_symbol, 2 bits", size: Some(2) });
-    run.compare(Demap { name: "dvb_t_demap_symbol, 4 bits", size: Some(4) });
-    run.compare(Demap { name: "dvb_t_demap_symbol, 6 bits", size: Some(6) });
-    run.compare(Demap { name: "dvb_t_demap_symbol, other sizes", size: None });
-    run.compare(Soft { name: "dvb_t_soft_llr, 2 bits", size: Some(2) });
-    run.compare(Soft { name: "dvb_t_soft_llr, 4 bits", size: Some(4) });
-    run.compare(Soft { name: "dvb_t_soft_llr, 6 bits", size: Some(6) });
-    run.compare(Soft { name: "dvb_t_soft_llr, other sizes", size: None });
+    run.compare("dvb_t_map_symbol", Map);
+    run.compare("dvb_t_demap_symbol, 2 bits", Demap { size: Some(2) });
+    run.compare("dvb_t_demap_symbol, 4 bits", Demap { size: Some(4) });
+    run.compare("dvb_t_demap_symbol, 6 bits", Demap { size: Some(6) });
+    run.compare("dvb_t_demap_symbol, other sizes", Demap { size: None });
+    run.compare("dvb_t_soft_llr, 2 bits", Soft { size: Some(2) });
+    run.compare("dvb_t_soft_llr, 4 bits", Soft { size: Some(4) });
+    run.compare("dvb_t_soft_llr, 6 bits", Soft { size: Some(6) });
+    run.compare("dvb_t_soft_llr, other sizes", Soft { size: None });
 }
 
 struct Map;
@@ -43,10 +38,6 @@ impl Map {
 
 impl Subject for Map {
     type Case = Vec<u8>;
-
-    fn name(&self) -> &'static str {
-        "dvb_t_map_symbol"
-    }
 
     /// All groups, all pairs of bytes, each byte above 1 at each place, all lengths to 9 with and without such bytes, and long ones.
     fn each_case(&self, random: &mut Random, compare: &mut dyn FnMut(Vec<u8>)) {
@@ -69,7 +60,7 @@ impl Subject for Map {
 
     fn ours(&self, case: &Vec<u8>) -> Answer {
         let mut bits = Lent::to_read("bits", case);
-        let mapped = salt::dvb_t_map_symbol(bits.slice());
+        let mapped = call::dvb_t_map_symbol(bits.slice());
         Self::answer(mapped.number, mapped.point.re, mapped.point.im).surroundings(&surroundings(&mut [&mut bits]))
     }
 
@@ -161,7 +152,6 @@ fn in_bulk(random: &mut Random, size: Option<usize>, same: impl Fn(Received) -> 
 
 /// Hard demapping at one group size, or at the sizes that are none.
 struct Demap {
-    name: &'static str,
     size: Option<usize>,
 }
 
@@ -188,7 +178,7 @@ impl Demap {
     fn same(received: Received) -> bool {
         let size = received.size;
         let (mut memory, mut owed) = (BULK, BULK);
-        let answer = salt::dvb_t_demap_symbol(received.ours(), size, &mut memory[START..START + size]);
+        let answer = call::dvb_t_demap_symbol(received.ours(), size, &mut memory[START..START + size]);
         owed[START..START + size].copy_from_slice(&orion::dvb_t_demap_symbol(received.theirs(), size).expect("a group's size"));
         answer.number == 0 && answer.count == size && *std::hint::black_box(&mut memory) == owed
     }
@@ -196,10 +186,6 @@ impl Demap {
 
 impl Subject for Demap {
     type Case = Demapping;
-
-    fn name(&self) -> &'static str {
-        self.name
-    }
 
     /// Points in every kind of room.
     fn each_case(&self, random: &mut Random, compare: &mut dyn FnMut(Demapping)) {
@@ -217,7 +203,7 @@ impl Subject for Demap {
 
     fn ours(&self, case: &Demapping) -> Answer {
         let mut out = Lent::to_write("output", &case.output());
-        let answer = salt::dvb_t_demap_symbol(case.received.ours(), case.received.size, out.slice_mut());
+        let answer = call::dvb_t_demap_symbol(case.received.ours(), case.received.size, out.slice_mut());
         let found = surroundings(&mut [&mut out]);
         Answer::counted(answer.number, answer.count).bytes("output", out.slice()).surroundings(&found)
     }
@@ -248,7 +234,6 @@ impl Subject for Demap {
 
 /// Soft demapping at one group size, or at the sizes that are none.
 struct Soft {
-    name: &'static str,
     size: Option<usize>,
 }
 
@@ -265,7 +250,7 @@ impl Soft {
 
     /// Whether both sides give the same values, by bits and any NaN as any other.
     fn same(received: Received) -> bool {
-        let (ours, owed) = (salt::dvb_t_soft_llr(received.ours(), received.size), Self::owed(received));
+        let (ours, owed) = (call::dvb_t_soft_llr(received.ours(), received.size), Self::owed(received));
         ours.number == owed.number && ours.count == owed.count && ours.values.map(pattern) == owed.values.map(pattern)
     }
 
@@ -278,10 +263,6 @@ impl Soft {
 impl Subject for Soft {
     type Case = Received;
 
-    fn name(&self) -> &'static str {
-        self.name
-    }
-
     fn each_case(&self, random: &mut Random, compare: &mut dyn FnMut(Received)) {
         few_points(random, self.size, 1000, |_, received| compare(received));
     }
@@ -291,7 +272,7 @@ impl Subject for Soft {
     }
 
     fn ours(&self, case: &Received) -> Answer {
-        Self::answer(salt::dvb_t_soft_llr(case.ours(), case.size))
+        Self::answer(call::dvb_t_soft_llr(case.ours(), case.size))
     }
 
     fn expected(&self, case: &Received) -> Expected {

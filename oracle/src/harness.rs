@@ -30,12 +30,13 @@ impl Expected {
     }
 }
 
+/// Hands over each case in turn.
+pub type Cases<Case> = fn(&mut Random, &mut dyn FnMut(Case));
+
 /// A function of the port that is compared.
 pub trait Subject {
     /// One input, with all the memory that is lent.
     type Case;
-    /// The function's name, as orion-sdr has it.
-    fn name(&self) -> &'static str;
     /// Hands over each case in turn.
     fn each_case(&self, random: &mut Random, compare: &mut dyn FnMut(Self::Case));
     /// Compares further cases by a quick way of the subject's own: hands over one that differs, and gives how many were compared with orion-sdr.
@@ -69,12 +70,12 @@ impl Run {
         Self { seed, times, passed: 0 }
     }
 
-    /// Compares one function; the first difference ends the program.
-    pub fn compare<S: Subject>(&mut self, subject: S) {
-        print!("{}: ", subject.name());
+    /// Compares one function, by its name as orion-sdr has it; the first difference ends the program.
+    pub fn compare<S: Subject>(&mut self, name: &str, subject: S) {
+        print!("{name}: ");
         std::io::stdout().flush().ok();
         let (mut by_orion, mut by_document) = (0, 0);
-        let mut random = Random::named(self.seed, subject.name());
+        let mut random = Random::named(self.seed, name);
         for _ in 0..self.times {
             subject.each_case(&mut random, &mut |case| match self.source(&subject, case) {
                 Source::Orion => by_orion += 1,
@@ -82,7 +83,7 @@ impl Run {
             });
             by_orion += subject.in_bulk(&mut random, &mut |case| self.differed(&subject, case));
         }
-        assert!(by_orion > 0, "no case of {} was compared with orion-sdr", subject.name());
+        assert!(by_orion > 0, "no case of {name} was compared with orion-sdr");
         let refusals = if by_document > 0 { format!(", {by_document} refusals, by document 01") } else { String::new() };
         println!("{by_orion} compared with orion-sdr{refusals}: equal");
         self.passed += 1;

@@ -1,5 +1,7 @@
 //! Memory that is lent to the port: each slice stands inside a larger buffer with guards before and behind it, and all of it is watched.
 
+use crate::sys::SaltCell;
+
 /// What can stand in a lent slice; a later module adds its own item type here.
 pub trait Item: Copy {
     /// The guard's value at a place.
@@ -45,6 +47,16 @@ impl Item for f32 {
 
     fn same(self, other: f32) -> bool {
         self.to_bits() == other.to_bits()
+    }
+}
+
+impl Item for SaltCell {
+    fn guard(place: usize) -> SaltCell {
+        SaltCell { re: f32::guard(2 * place), im: f32::guard(2 * place + 1) }
+    }
+
+    fn same(self, other: SaltCell) -> bool {
+        self.re.same(other.re) && self.im.same(other.im)
     }
 }
 

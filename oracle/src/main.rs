@@ -1,10 +1,14 @@
 //! Compares the port's static library with orion-sdr's own Rust, module by module.
-//! A new module is a file with its `Subject`s and a `compare`, and two lines here; its C functions stand in salt.rs or a file of their own.
+//! A new module is a file with its `Subject`s and a `compare`, and two lines here; its C functions are called as by the Rust crate (`rust/src/call.rs`).
 
 mod answer;
+#[allow(dead_code)]
+#[path = "../../rust/src/call.rs"]
+mod call;
 mod cells;
 mod codes;
 mod dispersal;
+mod fields;
 mod gray;
 mod harness;
 mod lent;
@@ -12,11 +16,7 @@ mod pilots;
 mod points;
 mod random;
 mod receiver;
-mod salt;
-mod salt_codes;
-mod salt_pilots;
-mod salt_session;
-mod salt_tps;
+mod refusals;
 mod sender;
 mod session;
 mod session_calls;

@@ -1,40 +1,34 @@
 //! Carriers and pilots: the three counts of a carrier, the pilot sequence and the lists of orion-sdr's dvb_t.rs and grid.rs.
+//! orion-sdr's grids are built for a guard interval, and the port's have none.
 
 use crate::answer::Answer;
+use crate::fields::GUARDS;
 use crate::harness::{Expected, Run, Subject};
 use crate::lent::{EMPTY, Lent, Room, UNTOUCHED, background, surroundings};
 use crate::random::Random;
+use crate::refusals::{LENGTH, NOT_A_BIT, OUTPUT_SHORT};
 use crate::sys::SaltCounted;
 use crate::sys::SaltScatteredPilotExtractor as Extractor;
-use crate::{salt_pilots as salt, shrink};
+use crate::{call, shrink};
 use num_complex::Complex32;
 use orion_sdr::multicarrier::{CarrierGrid, CarrierPlan};
 use orion_sdr::waveform::dvb_t as orion;
-use orion::GuardInterval::{self, G1_4, G1_8, G1_16, G1_32};
 use std::ops::RangeInclusive;
 
-/// Document 01's LENGTH.
-pub const LENGTH: u8 = 1;
-/// Document 01's NOT A BIT.
-const NOT_A_BIT: u8 = 2;
-/// Document 01's OUTPUT SHORT.
-pub const OUTPUT_SHORT: u8 = 3;
 /// The last active carrier.
 const LAST: i32 = orion::DVB_T_KMAX as i32;
 /// The signed index of the last active carrier.
 const HALF: i32 = LAST / 2;
-/// orion-sdr's guard intervals; its grids are built for one, and the port's have none.
-pub const GUARDS: [GuardInterval; 4] = [G1_32, G1_16, G1_8, G1_4];
 
 /// Compares all functions of this module.
 pub fn compare(run: &mut Run) {
-    conversions().into_iter().for_each(|conversion| run.compare(conversion));
-    run.compare(Sequence);
-    run.compare(Boosted);
-    tables().into_iter().for_each(|table| run.compare(table));
-    lists().into_iter().for_each(|list| run.compare(list));
-    references().into_iter().for_each(|reference| run.compare(reference));
-    run.compare(Phase { extractors: extractors() });
+    conversions().into_iter().for_each(|conversion| run.compare(conversion.name, conversion));
+    run.compare("wk_prbs", Sequence);
+    run.compare("boosted_pilot_value", Boosted);
+    tables().into_iter().for_each(|table| run.compare(table.name, table));
+    lists().into_iter().for_each(|list| run.compare(list.name, list));
+    references().into_iter().for_each(|reference| run.compare(reference.name, reference));
+    run.compare("ScatteredPilotExtractor::phase", Phase { extractors: extractors() });
 }
 
 /// A conversion from one count of a carrier to another, over all that its argument's type holds.
@@ -55,7 +49,7 @@ fn conversions() -> [Conversion; 3] {
             name: "active_to_signed",
             inputs: 0..=i32::from(u16::MAX),
             ours: |active| {
-                let answer = salt::active_to_signed(active as u16);
+                let answer = call::active_to_signed(active as u16);
                 (answer.number, i32::from(answer.index))
             },
             theirs: Box::new(|active| (active <= LAST).then(|| orion::active_to_signed(active as usize))),
@@ -64,7 +58,7 @@ fn conversions() -> [Conversion; 3] {
             name: "signed_to_bin",
             inputs: i32::from(i16::MIN)..=i32::from(i16::MAX),
             ours: |signed| {
-                let answer = salt::signed_to_bin(signed as i16);
+                let answer = call::signed_to_bin(signed as i16);
                 (answer.number, i32::from(answer.index))
             },
             theirs: Box::new(|signed| (-HALF..=HALF).contains(&signed).then(|| bins_of(vec![signed])[0] as i32)),
@@ -73,7 +67,7 @@ fn conversions() -> [Conversion; 3] {
             name: "bin_to_active",
             inputs: 0..=i32::from(u16::MAX),
             ours: |bin| {
-                let answer = salt::bin_to_active(bin as u16);
+                let answer = call::bin_to_active(bin as u16);
                 (answer.number, i32::from(answer.index))
             },
             theirs: Box::new(active_of),
@@ -95,10 +89,6 @@ impl Conversion {
 
 impl Subject for Conversion {
     type Case = i32;
-
-    fn name(&self) -> &'static str {
-        self.name
-    }
 
     fn each_case(&self, _: &mut Random, compare: &mut dyn FnMut(i32)) {
         self.inputs.clone().for_each(compare);
@@ -132,10 +122,6 @@ struct Sequence;
 impl Subject for Sequence {
     type Case = usize;
 
-    fn name(&self) -> &'static str {
-        "wk_prbs"
-    }
-
     /// Short lengths, all around the carriers and the period, and random ones.
     fn each_case(&self, random: &mut Random, compare: &mut dyn FnMut(usize)) {
         (0..=100).chain(1700..=1710).chain(2040..=2060).chain([5_000, 3 * 2_047, 65_535, 65_536, 65_537, 200_000]).for_each(&mut *compare);
@@ -144,7 +130,7 @@ impl Subject for Sequence {
 
     fn ours(&self, case: &usize) -> Answer {
         let mut out = Lent::to_write("output", &background(*case));
-        salt::wk_prbs(out.slice_mut());
+        call::wk_prbs(out.slice_mut());
         let found = surroundings(&mut [&mut out]);
         Answer::default().bytes("output", out.slice()).surroundings(&found)
     }
@@ -175,16 +161,12 @@ impl Boosted {
 impl Subject for Boosted {
     type Case = u8;
 
-    fn name(&self) -> &'static str {
-        "boosted_pilot_value"
-    }
-
     fn each_case(&self, _: &mut Random, compare: &mut dyn FnMut(u8)) {
         (0..=u8::MAX).for_each(compare);
     }
 
     fn ours(&self, case: &u8) -> Answer {
-        let answer = salt::boosted_pilot_value(*case);
+        let answer = call::boosted_pilot_value(*case);
         Self::answer(answer.number, answer.point.re, answer.point.im)
     }
 
@@ -215,22 +197,22 @@ fn tables() -> [Table; 4] {
     [
         Table {
             name: "continual_pilot_indices",
-            ours: || salt::continual_pilot_indices().to_vec(),
+            ours: || call::continual_pilot_indices().carriers.to_vec(),
             theirs: || orion::DVB_T_CONTINUAL_PILOTS_2K.to_vec(),
         },
         Table {
             name: "continual_pilot_bins",
-            ours: || salt::continual_pilot_bins().to_vec(),
+            ours: || call::continual_pilot_bins().carriers.to_vec(),
             theirs: || orion::continual_pilot_bins().to_vec(),
         },
         Table {
             name: "tps_carrier_indices",
-            ours: || salt::tps_carrier_indices().to_vec(),
+            ours: || call::tps_carrier_indices().carriers.to_vec(),
             theirs: || orion::tps_carrier_indices().to_vec(),
         },
         Table {
             name: "tps_carrier_bins",
-            ours: || salt::tps_carrier_bins().to_vec(),
+            ours: || call::tps_carrier_bins().carriers.to_vec(),
             theirs: || orion::tps_carrier_bins().to_vec(),
         },
     ]
@@ -238,10 +220,6 @@ fn tables() -> [Table; 4] {
 
 impl Subject for Table {
     type Case = ();
-
-    fn name(&self) -> &'static str {
-        self.name
-    }
 
     fn each_case(&self, _: &mut Random, compare: &mut dyn FnMut(())) {
         compare(());
@@ -350,22 +328,22 @@ fn lists() -> [List; 4] {
     [
         List {
             name: "scattered_pilot_indices",
-            ours: salt::scattered_pilot_indices,
+            ours: call::scattered_pilot_indices,
             theirs: Box::new(|phase, _| orion::scattered_pilot_indices(phase)),
         },
         List {
             name: "data_bins",
-            ours: salt::data_bins,
+            ours: call::data_bins,
             theirs: Box::new(move |phase, guard| grids[guard][phase % 4].data_bins().to_vec()),
         },
         List {
             name: "static_data_bins",
-            ours: |_, out| salt::static_data_bins(out),
+            ours: |_, out| call::static_data_bins(out),
             theirs: Box::new(move |_, guard| static_grids[guard].data_bins().to_vec()),
         },
         List {
             name: "ScatteredPilotExtractor::data_bins",
-            ours: |phase, out| Extractor { phase }.data_bins(out),
+            ours: |phase, out| call::extractor_data_bins(Extractor { phase }, out),
             theirs: Box::new(move |phase, guard| extractors[guard][phase % 4].data_bins().to_vec()),
         },
     ]
@@ -382,10 +360,6 @@ impl List {
 
 impl Subject for List {
     type Case = Listing;
-
-    fn name(&self) -> &'static str {
-        self.name
-    }
 
     fn each_case(&self, random: &mut Random, compare: &mut dyn FnMut(Listing)) {
         Listing::each(random, 1, compare);
@@ -426,9 +400,9 @@ struct Reference {
 
 /// The two functions that give reference pilots.
 fn references() -> [Reference; 2] {
-    let by_extractor = |phase, bins: &mut [u16], values: &mut [f32]| Extractor { phase }.current_pilot_bins(bins, values);
+    let by_extractor = |phase, bins: &mut [u16], values: &mut [f32]| call::extractor_current_pilot_bins(Extractor { phase }, bins, values);
     [
-        Reference { name: "reference_pilot_bins", ours: salt::reference_pilot_bins, extractors: extractors() },
+        Reference { name: "reference_pilot_bins", ours: call::reference_pilot_bins, extractors: extractors() },
         Reference { name: "ScatteredPilotExtractor::current_pilot_bins", ours: by_extractor, extractors: extractors() },
     ]
 }
@@ -455,10 +429,6 @@ impl Reference {
 
 impl Subject for Reference {
     type Case = Listing;
-
-    fn name(&self) -> &'static str {
-        self.name
-    }
 
     fn each_case(&self, random: &mut Random, compare: &mut dyn FnMut(Listing)) {
         Listing::each(random, 2, compare);
@@ -502,16 +472,12 @@ struct Phase {
 impl Subject for Phase {
     type Case = usize;
 
-    fn name(&self) -> &'static str {
-        "ScatteredPilotExtractor::phase"
-    }
-
     fn each_case(&self, random: &mut Random, compare: &mut dyn FnMut(usize)) {
         phases(random).into_iter().for_each(compare);
     }
 
     fn ours(&self, case: &usize) -> Answer {
-        Answer::default().number("phase", Extractor { phase: *case }.phase() as u64)
+        Answer::default().number("phase", call::extractor_phase(Extractor { phase: *case }) as u64)
     }
 
     fn expected(&self, case: &usize) -> Expected {

@@ -3,36 +3,31 @@
 
 use crate::answer::{Answer, floats};
 use crate::cells::{cells, plainer, shorter, some_floats};
-use crate::codes::{LENGTH, OUTPUT_SHORT};
-use crate::harness::{Expected, Run, Subject};
+use crate::harness::{Cases, Expected, Run, Subject};
 use crate::lent::{Lent, Room, UNTOUCHED, background, surroundings};
 use crate::points::pattern;
 use crate::random::Random;
-use crate::salt_tps::feed_parts;
+use crate::refusals::{FULL, INCOMPLETE, LENGTH, OUTPUT_SHORT};
 use crate::sender::every_room;
-use crate::shrink;
 use crate::signals::{CELLS, Cells, Signal};
-use crate::sys::{SaltCell, SaltCounted, SaltTpsBit, SaltTpsDecoder, SaltTpsWord, SaltUnpacked};
-use crate::words::{WORD, owed, with_word};
+use crate::sys::{SaltCell, SaltCounted, SaltTpsBit, SaltTpsDecoder, SaltUnpacked};
+use crate::words::{NONE, WORD, owed, with_word};
+use crate::{call, shrink};
 use orion_sdr::waveform::dvb_t_tps::TpsDecoder;
 
-/// Document 01's FULL.
-pub const FULL: u8 = 6;
-/// Document 01's INCOMPLETE.
-pub const INCOMPLETE: u8 = 8;
 /// So many symbols are fed in bulk.
 const SYMBOLS: usize = 1_000_000;
 
 /// Compares all functions of this module, each over sequences of calls; after each call all that can be asked is asked.
 pub fn compare(run: &mut Run) {
-    let by_value = |name, cases, bulk| Receiver { name, cases, way: Way::ByValue, bulk };
-    run.compare(by_value("TpsDecoder::new", new_cases, 0));
-    run.compare(by_value("TpsDecoder::feed_symbol", feed_symbol_cases, SYMBOLS));
-    run.compare(Receiver { name: "TpsDecoder::feed_symbol, in place", cases: in_place_cases, way: Way::InPlace, bulk: SYMBOLS });
-    run.compare(by_value("TpsDecoder::reset", reset_cases, 0));
-    run.compare(by_value("TpsDecoder::is_complete", is_complete_cases, 0));
-    run.compare(by_value("TpsDecoder::bits", bits_cases, 0));
-    run.compare(by_value("TpsDecoder::word", word_cases, 0));
+    let by_value = |cases, bulk| Receiver { cases, way: Way::ByValue, bulk };
+    run.compare("TpsDecoder::new", by_value(new_cases, 0));
+    run.compare("TpsDecoder::feed_symbol", by_value(feed_symbol_cases, SYMBOLS));
+    run.compare("TpsDecoder::feed_symbol, in place", Receiver { cases: in_place_cases, way: Way::InPlace, bulk: SYMBOLS });
+    run.compare("TpsDecoder::reset", by_value(reset_cases, 0));
+    run.compare("TpsDecoder::is_complete", by_value(is_complete_cases, 0));
+    run.compare("TpsDecoder::bits", by_value(bits_cases, 0));
+    run.compare("TpsDecoder::word", by_value(word_cases, 0));
 }
 
 /// How the port's receiver is fed.
@@ -133,7 +128,7 @@ struct Ours {
 impl Ours {
     /// One before its first symbol.
     fn new(way: Way, watched: bool) -> Self {
-        Self { decoder: SaltTpsDecoder::new(), way, watched, found: UNTOUCHED.to_string() }
+        Self { decoder: call::tps_decoder_new(), way, watched, found: UNTOUCHED.to_string() }
     }
 
     /// Makes a call.
@@ -141,7 +136,7 @@ impl Ours {
         let before = self.decoder;
         let (number, bit, told) = match step {
             Step::Reset => {
-                self.decoder = before.reset();
+                self.decoder = call::tps_decoder_reset(before);
                 (0, 0, None)
             }
             Step::Feed(floats) => {
@@ -160,18 +155,22 @@ impl Ours {
         let after = self.decoder;
         let kept = number == 0 || as_numbers(&after) == as_numbers(&before);
         let (bits, prev) = (after.bits.map(|bit| bit.min(1)), flat(after.prev).map(pattern));
-        Seen { number, bit, told, kept, count: after.count, bits, prev, complete: after.is_complete(), word: after.word() }
+        let (complete, word) = (call::tps_decoder_is_complete(after), call::tps_decoder_word(after));
+        Seen { number, bit, told, kept, count: after.count, bits, prev, complete, word }
     }
 
     /// Feeds a symbol.
     fn feed(&mut self, floats: &[f32]) -> SaltTpsBit {
         match self.way {
             Way::ByValue => {
-                let fed = self.decoder.feed_symbol(floats);
+                let fed = call::tps_decoder_feed_symbol(self.decoder, floats);
                 self.decoder = fed.decoder;
                 SaltTpsBit { number: fed.number, bit: fed.bit }
             }
-            Way::InPlace => self.decoder.feed_in_place(floats),
+            Way::InPlace => {
+                let SaltTpsDecoder { prev, bits, count } = &mut self.decoder;
+                call::tps_decoder_feed_in_place(prev, bits, count, floats)
+            }
         }
     }
 
@@ -190,17 +189,17 @@ impl Ours {
     /// Feeds a symbol to the receiver's parts, each between guards, and says what it left of these.
     fn feed_parts(&mut self, cells: &[f32]) -> (SaltTpsBit, Vec<String>) {
         let SaltTpsDecoder { prev, bits, count } = self.decoder;
-        let (mut prev, mut bits, mut count) = (Lent::to_write("prev", &flat(prev)), Lent::to_write("bits", &bits), Lent::to_write("count", &[count]));
-        let fed = feed_parts(prev.slice_mut().try_into().unwrap(), bits.slice_mut().try_into().unwrap(), &mut count.slice_mut()[0], cells);
-        let cell = |place| SaltCell { re: prev.slice()[2 * place], im: prev.slice()[2 * place + 1] };
-        self.decoder = SaltTpsDecoder { prev: std::array::from_fn(cell), bits: bits.slice().try_into().unwrap(), count: count.slice()[0] };
+        let (mut prev, mut bits, mut count) = (Lent::to_write("prev", &prev), Lent::to_write("bits", &bits), Lent::to_write("count", &[count]));
+        let lent = (prev.slice_mut().try_into().unwrap(), bits.slice_mut().try_into().unwrap(), &mut count.slice_mut()[0]);
+        let fed = call::tps_decoder_feed_in_place(lent.0, lent.1, lent.2, cells);
+        self.decoder = SaltTpsDecoder { prev: prev.slice().try_into().unwrap(), bits: bits.slice().try_into().unwrap(), count: count.slice()[0] };
         (fed, vec![surroundings(&mut [&mut prev]), surroundings(&mut [&mut bits]), surroundings(&mut [&mut count])])
     }
 
     /// Asks for the bits, into an output that stands between guards; gives all of it too.
     fn bits(&mut self, room: Room) -> (SaltCounted, Vec<u8>) {
         let mut out = Lent::to_write("output", &background(room.size(self.decoder.count.min(WORD))));
-        let answer = self.decoder.bits(out.slice_mut());
+        let answer = call::tps_decoder_bits(self.decoder, out.slice_mut());
         self.found = surroundings(&mut [&mut out]);
         (answer, out.slice().to_vec())
     }
@@ -288,28 +287,20 @@ impl Theirs {
     fn word(&self) -> SaltUnpacked {
         match self.decoder.is_complete() {
             true => owed(self.decoder.word(), self.decoder.bits()),
-            false => SaltUnpacked { number: INCOMPLETE, word: SaltTpsWord::NONE },
+            false => SaltUnpacked { number: INCOMPLETE, word: NONE },
         }
     }
 }
 
-/// A function of the receiver, and the sequences of calls that try it; so many symbols are fed in bulk.
+/// A function of the receiver, by the sequences of calls that try it; so many symbols are fed in bulk.
 struct Receiver {
-    name: &'static str,
-    cases: Cases,
+    cases: Cases<Vec<Step>>,
     way: Way,
     bulk: usize,
 }
 
-/// Hands over sequences of calls.
-type Cases = fn(&mut Random, &mut dyn FnMut(Vec<Step>));
-
 impl Subject for Receiver {
     type Case = Vec<Step>;
-
-    fn name(&self) -> &'static str {
-        self.name
-    }
 
     fn each_case(&self, random: &mut Random, compare: &mut dyn FnMut(Vec<Step>)) {
         (self.cases)(random, compare);
@@ -406,7 +397,7 @@ fn feed_symbol_cases(random: &mut Random, compare: &mut dyn FnMut(Vec<Step>)) {
 
 /// All cases of the functions that leave a receiver.
 fn in_place_cases(random: &mut Random, compare: &mut dyn FnMut(Vec<Step>)) {
-    let all: [Cases; 5] = [new_cases, feed_symbol_cases, reset_cases, is_complete_cases, word_cases];
+    let all: [Cases<Vec<Step>>; 5] = [new_cases, feed_symbol_cases, reset_cases, is_complete_cases, word_cases];
     all.into_iter().for_each(|cases| cases(random, compare));
 }
 

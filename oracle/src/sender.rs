@@ -2,13 +2,13 @@
 //! Its signs are private there, so two senders are compared by the cells that they send.
 
 use crate::answer::Answer;
-use crate::codes::{NOT_A_BIT, OUTPUT_SHORT};
-use crate::harness::{Expected, Run, Subject};
+use crate::harness::{Cases, Expected, Run, Subject};
 use crate::lent::{EMPTY, Lent, Room, UNTOUCHED, surroundings};
 use crate::pilots::no_values;
 use crate::random::Random;
-use crate::shrink;
+use crate::refusals::{NOT_A_BIT, OUTPUT_SHORT};
 use crate::sys::SaltTpsEncoder;
+use crate::{call, shrink};
 use orion_sdr::waveform::dvb_t_tps::TpsEncoder;
 
 /// Floats of a symbol's cells.
@@ -21,9 +21,9 @@ const BITS: usize = 200;
 
 /// Compares all functions of this module, each over sequences of calls.
 pub fn compare(run: &mut Run) {
-    run.compare(Sender { name: "TpsEncoder::new", cases: new_cases });
-    run.compare(Sender { name: "TpsEncoder::next_symbol", cases: next_symbol_cases });
-    run.compare(Sender { name: "TpsEncoder::reset", cases: reset_cases });
+    run.compare("TpsEncoder::new", Sender { cases: new_cases });
+    run.compare("TpsEncoder::next_symbol", Sender { cases: next_symbol_cases });
+    run.compare("TpsEncoder::reset", Sender { cases: reset_cases });
 }
 
 /// One call on a sender.
@@ -46,12 +46,12 @@ impl Step {
     /// Makes the call on the port's sender, and adds what it answers, with whether a refusal gave the sender back as it went in.
     fn ours(self, (encoder, answer): (SaltTpsEncoder, Answer), place: usize) -> (SaltTpsEncoder, Answer) {
         let Step::Next(bit, room) = self else {
-            return (encoder.reset(), answer);
+            return (call::tps_encoder_reset(encoder), answer);
         };
         let mut out = Lent::to_write("cells", &no_values(room.size(CELLS)));
-        let sent = encoder.next_symbol(bit, out.slice_mut());
+        let sent = call::tps_encoder_next_symbol(encoder, bit, out.slice_mut());
         let found = surroundings(&mut [&mut out]);
-        let kept = sent.answer.number == 0 || sent.encoder.same(&encoder);
+        let kept = sent.answer.number == 0 || same(&sent.encoder, &encoder);
         (sent.encoder, answered(answer, place, sent.answer.number, sent.answer.count, out.slice(), kept).surroundings(&found))
     }
 
@@ -86,6 +86,11 @@ impl Step {
     }
 }
 
+/// Whether two senders have the same bits.
+fn same(one: &SaltTpsEncoder, other: &SaltTpsEncoder) -> bool {
+    one.started == other.started && one.signs.map(f32::to_bits) == other.signs.map(f32::to_bits)
+}
+
 /// An answer with what a call gives.
 fn answered(answer: Answer, place: usize, number: u8, count: usize, cells: &[f32], kept: bool) -> Answer {
     let name = |part: &str| format!("call {place}: {part}");
@@ -93,10 +98,9 @@ fn answered(answer: Answer, place: usize, number: u8, count: usize, cells: &[f32
     answer.exact_floats(&name("cells"), cells).number(&name("sender as it went in where refused"), u64::from(kept))
 }
 
-/// A function of the sender, and the sequences of calls that try it.
+/// A function of the sender, by the sequences of calls that try it.
 struct Sender {
-    name: &'static str,
-    cases: fn(&mut Random, &mut dyn FnMut(Vec<Step>)),
+    cases: Cases<Vec<Step>>,
 }
 
 /// The last calls of each case: a bit of 1 and one of 0 show whether the sender has started, and its signs.
@@ -105,16 +109,12 @@ const PROBE: [Step; 2] = [Step::Next(1, Room::Exact), Step::Next(0, Room::Exact)
 impl Subject for Sender {
     type Case = Vec<Step>;
 
-    fn name(&self) -> &'static str {
-        self.name
-    }
-
     fn each_case(&self, random: &mut Random, compare: &mut dyn FnMut(Vec<Step>)) {
         (self.cases)(random, compare);
     }
 
     fn ours(&self, case: &Vec<Step>) -> Answer {
-        let start = (SaltTpsEncoder::new(), Answer::default());
+        let start = (call::tps_encoder_new(), Answer::default());
         case.iter().chain(&PROBE).enumerate().fold(start, |so_far, (place, step)| step.ours(so_far, place)).1
     }
 

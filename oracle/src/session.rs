@@ -1,8 +1,8 @@
 //! The receive session, which orion-sdr has not: it must show after every call what orion-sdr's extractor and decoder give on the symbols that stand.
 
 use crate::answer::Answer;
-use crate::harness::{Expected, Run, Subject};
-use crate::pilots::GUARDS;
+use crate::fields::GUARDS;
+use crate::harness::{Cases, Expected, Run, Subject};
 use crate::random::Random;
 use crate::session_calls::{Feed, Memory, PLACES, Step};
 use crate::session_scripts as scripts;
@@ -18,12 +18,12 @@ const AFRESH_OTHERWISE: usize = 4;
 
 /// Compares all functions of this module, each over scripts of calls; after each call all that can be asked is asked.
 pub fn compare(run: &mut Run) {
-    run.compare(Session::new("Session::feed", scripts::feeds, 0));
-    run.compare(Session::new("Session::step_back", scripts::step_backs, 0));
-    run.compare(Session::new("Session::reset", scripts::resets, 0));
-    run.compare(Session::new("Session::word", scripts::words, 0));
-    run.compare(Session::new("Session, states handed in", scripts::handed_in, 0));
-    run.compare(Session::new("Session, random scripts", scripts::some, SCRIPTS));
+    run.compare("Session::feed", Session::new(scripts::feeds, 0));
+    run.compare("Session::step_back", Session::new(scripts::step_backs, 0));
+    run.compare("Session::reset", Session::new(scripts::resets, 0));
+    run.compare("Session::word", Session::new(scripts::words, 0));
+    run.compare("Session, states handed in", Session::new(scripts::handed_in, 0));
+    run.compare("Session, random scripts", Session::new(scripts::some, SCRIPTS));
 }
 
 /// Calls on a new session; orion-sdr's guard interval, and whether its extractor extracts all standing symbols again at each call.
@@ -43,8 +43,7 @@ impl Script {
 
 /// Scripts that try a function of the session; so many more random ones are compared in bulk.
 struct Session {
-    name: &'static str,
-    cases: fn(&mut Random, &mut dyn FnMut(Vec<Step>)),
+    cases: Cases<Vec<Step>>,
     bulk: usize,
     memory: Memory,
     orion: [RefCell<Orion>; 4],
@@ -52,8 +51,8 @@ struct Session {
 
 impl Session {
     /// The function with orion-sdr's extractors, one for each guard interval.
-    fn new(name: &'static str, cases: fn(&mut Random, &mut dyn FnMut(Vec<Step>)), bulk: usize) -> Self {
-        Self { name, cases, bulk, memory: Memory::new(), orion: GUARDS.map(|guard| RefCell::new(Orion::new(guard))) }
+    fn new(cases: Cases<Vec<Step>>, bulk: usize) -> Self {
+        Self { cases, bulk, memory: Memory::new(), orion: GUARDS.map(|guard| RefCell::new(Orion::new(guard))) }
     }
 
     /// Calls one side, and gives all that it answers.
@@ -91,10 +90,6 @@ impl Session {
 
 impl Subject for Session {
     type Case = Script;
-
-    fn name(&self) -> &'static str {
-        self.name
-    }
 
     fn each_case(&self, random: &mut Random, compare: &mut dyn FnMut(Script)) {
         let mut number = 0;

@@ -2,10 +2,10 @@
 
 use crate::answer::{Answer, floats};
 use crate::cells::some_floats;
-use crate::codes::{LENGTH, OUTPUT_SHORT};
 use crate::lent::{Room, UNTOUCHED};
 use crate::random::Random;
-use crate::receiver::{FULL, HANDED};
+use crate::receiver::HANDED;
+use crate::refusals::{EMPTY, FULL, LENGTH, OUTPUT_SHORT};
 use crate::signals::{CELLS, Cells};
 use crate::sys::SaltUnpacked;
 use crate::words::{WORD, with_word};
@@ -20,8 +20,6 @@ pub const DATA: usize = 3024;
 pub const JOURNAL: usize = WORD * CELLS;
 /// At most so many floats are lent beyond those.
 pub const SURPLUS: usize = 64;
-/// Document 01's EMPTY.
-const EMPTY: u8 = 7;
 
 /// One call on a session; `Hand` is none: the state is handed in with another count where 68 stand, other previous cells where none does, another
 /// byte for each bit of 1, and one for each bit that doesn't stand.

@@ -1,13 +1,15 @@
 //! The two sides of a session's script: the port's session, and orion-sdr's ScatteredPilotExtractor and TpsDecoder run afresh on the symbols
 //! that stand.
 
+use crate::call;
 use crate::cells::cells;
 use crate::points::pattern;
-use crate::receiver::{HANDED, INCOMPLETE};
+use crate::receiver::HANDED;
+use crate::refusals::INCOMPLETE;
 use crate::session_calls::{DATA, JOURNAL, Memory, SYMBOL, Seen, Step};
 use crate::signals::CELLS;
-use crate::sys::{SaltSession, SaltTpsWord, SaltUnpacked};
-use crate::words::{WORD, owed};
+use crate::sys::{SaltSession, SaltUnpacked};
+use crate::words::{NONE, WORD, owed};
 use num_complex::Complex32;
 use orion_sdr::waveform::dvb_t::{GuardInterval, ScatteredPilotExtractor, tps_carrier_bins};
 use orion_sdr::waveform::dvb_t_tps::TpsDecoder;
@@ -26,7 +28,7 @@ pub struct Ours {
 impl Ours {
     /// One in which no symbol stands.
     pub fn new() -> Self {
-        Self { session: SaltSession::new() }
+        Self { session: call::session_new() }
     }
 }
 
@@ -36,14 +38,14 @@ impl Side for Ours {
         let (number, bit, after) = match step {
             Step::Feed(feed) => {
                 let (symbol, output, journal) = memory.lent(feed);
-                let fed = before.feed(symbol, output, journal);
+                let fed = call::session_feed(before, symbol, output, journal);
                 (fed.number, fed.bit, fed.session)
             }
             Step::StepBack(room) => {
-                let stepped = before.step_back(memory.journal(room.size(JOURNAL)));
+                let stepped = call::session_step_back(before, memory.journal(room.size(JOURNAL)));
                 (stepped.number, 0, stepped.session)
             }
-            Step::Reset => (0, 0, before.reset()),
+            Step::Reset => (0, 0, call::session_reset(before)),
             Step::Hand { count, one, other } => (0, 0, handed(before, *count, *one, *other)),
         };
         self.session = after;
@@ -53,9 +55,15 @@ impl Side for Ours {
             let cell = after.prev[place / 2];
             pattern(if place % 2 == 0 { cell.re } else { cell.im })
         });
-        let kept = number == 0 || after.same(&before);
-        Seen { number, bit, kept, count: after.count, bits, prev, phase: after.phase(), word: after.word() }
+        let kept = number == 0 || same(&after, &before);
+        Seen { number, bit, kept, count: after.count, bits, prev, phase: call::session_phase(after), word: call::session_word(after) }
     }
+}
+
+/// Whether two sessions have the same bits.
+fn same(one: &SaltSession, other: &SaltSession) -> bool {
+    let numbers = |session: &SaltSession| session.prev.map(|cell| [cell.re.to_bits(), cell.im.to_bits()]);
+    one.bits == other.bits && one.count == other.count && numbers(one) == numbers(other)
 }
 
 /// The state with another count where 68 stand, other previous cells where none does, another byte for each bit of 1, and one for each bit that
@@ -159,7 +167,7 @@ impl<'a> Theirs<'a> {
     fn word(&self) -> SaltUnpacked {
         match self.orion.decoder.is_complete() {
             true => owed(self.orion.decoder.word(), self.orion.decoder.bits()),
-            false => SaltUnpacked { number: INCOMPLETE, word: SaltTpsWord::NONE },
+            false => SaltUnpacked { number: INCOMPLETE, word: NONE },
         }
     }
 }

@@ -1,9 +1,13 @@
 //! Writes stored answers of orion-sdr's for the replay program: FUNCTION NUMBER INPUT OUTPUT, one line each (README.md).
 
 #[allow(dead_code)]
+mod fields;
+#[allow(dead_code)]
 mod points;
 #[allow(dead_code)]
 mod random;
+#[allow(dead_code)]
+mod refusals;
 mod store_codes;
 mod store_symbols;
 mod store_tps;

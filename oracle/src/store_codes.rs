@@ -1,28 +1,15 @@
 //! The stored answers of the TPS code and of TPS words: encode, decode, pack and unpack.
 
 use crate::Lines;
+use crate::fields::{orion_fields, orion_word};
 use crate::random::Random;
-use orion_sdr::fec::PunctureRate;
-use orion_sdr::modulate::ConstellationOrder;
-use orion_sdr::waveform::dvb_t::GuardInterval;
+use crate::refusals::{LENGTH, NO_WORD, RESERVED};
 use orion_sdr::waveform::dvb_t_tps::{TpsWord, tps_bch_decode, tps_bch_encode};
 
 /// Bits of the information.
 const INFORMATION: usize = 53;
 /// Bits of a codeword.
 const CODEWORD: usize = 67;
-/// Document 01's LENGTH.
-const LENGTH: u8 = 1;
-/// Document 01's NO WORD.
-const NO_WORD: u8 = 4;
-/// Document 01's RESERVED.
-const RESERVED: u8 = 5;
-/// The constellations by their codes.
-const CONSTELLATIONS: [ConstellationOrder; 3] = [ConstellationOrder::Qpsk, ConstellationOrder::Qam16, ConstellationOrder::Qam64];
-/// The rates by their codes.
-const RATES: [PunctureRate; 5] = [PunctureRate::R1_2, PunctureRate::R2_3, PunctureRate::R3_4, PunctureRate::R5_6, PunctureRate::R7_8];
-/// The guard intervals by their codes.
-const GUARDS: [GuardInterval; 4] = [GuardInterval::G1_32, GuardInterval::G1_16, GuardInterval::G1_8, GuardInterval::G1_4];
 
 /// So many random bits.
 pub fn bits(random: &mut Random, length: usize) -> Vec<u8> {
@@ -115,25 +102,9 @@ pub fn decode(lines: &mut Lines) {
     lines.answer("~decode", 0, &word, Some(&word[..INFORMATION]));
 }
 
-/// The word of five bytes: frame number, constellation, rate and guard by their codes, cell id.
-fn word_of(fields: [u8; 5]) -> TpsWord {
-    let [frame_number, constellation, rate, guard, cell_id] = fields;
-    TpsWord {
-        frame_number,
-        constellation: CONSTELLATIONS[constellation as usize],
-        code_rate_hp: RATES[rate as usize],
-        guard: GUARDS[guard as usize],
-        cell_id,
-    }
-}
-
-/// The five bytes of a word.
-fn fields_of(word: TpsWord) -> [u8; 5] {
-    let code = |place: Option<usize>| place.expect("a case of DVB-T's") as u8;
-    let constellation = code(CONSTELLATIONS.iter().position(|order| *order == word.constellation));
-    let rate = code(RATES.iter().position(|rate| *rate == word.code_rate_hp));
-    let guard = code(GUARDS.iter().position(|guard| *guard == word.guard));
-    [word.frame_number, constellation, rate, guard, word.cell_id]
+/// The bits of a word with these fields.
+fn packed(fields: [u8; 5]) -> [u8; CODEWORD + 1] {
+    orion_word(fields).expect("codes of the enums").pack()
 }
 
 /// Words of every constellation, rate and guard, with any frame number and cell id.
@@ -151,17 +122,17 @@ fn words(random: &mut Random) -> Vec<[u8; 5]> {
 /// The words, and four with a bit turned.
 pub fn pack(lines: &mut Lines) {
     for fields in words(&mut lines.random) {
-        lines.answer("pack", 0, &fields, Some(&word_of(fields).pack()));
+        lines.answer("pack", 0, &fields, Some(&packed(fields)));
     }
     for (fields, place) in [([1, 0, 3, 2, 77], 0), ([2, 1, 0, 3, 1], 1), ([3, 2, 4, 0, 200], 24), ([0, 0, 0, 0, 0], 67)] {
-        lines.turned("pack", 0, &fields, &word_of(fields).pack(), 8 * place + 7);
+        lines.turned("pack", 0, &fields, &packed(fields), 8 * place + 7);
     }
 }
 
 /// Adds what unpacking answers; its None is LENGTH, NO WORD where the code has no word, and else RESERVED.
 fn unpacked(lines: &mut Lines, bits: &[u8]) {
     match TpsWord::unpack(bits) {
-        Some(word) => lines.answer("unpack", 0, bits, Some(&fields_of(word))),
+        Some(word) => lines.answer("unpack", 0, bits, Some(&orion_fields(word))),
         None if bits.len() != CODEWORD + 1 => lines.refused("unpack", 0, bits, LENGTH),
         None if tps_bch_decode(&bits[1..]).is_none() => lines.refused("unpack", 0, bits, NO_WORD),
         None => lines.refused("unpack", 0, bits, RESERVED),
@@ -178,7 +149,7 @@ fn any_word(random: &mut Random) -> Vec<u8> {
 /// Packed words with none to three wrong bits, words of any information with none to two, and lengths that are refused.
 pub fn unpack(lines: &mut Lines) {
     for (place, fields) in words(&mut lines.random).into_iter().step_by(2).enumerate() {
-        let word = wrong(&mut lines.random, &word_of(fields).pack(), 0, place % 4);
+        let word = wrong(&mut lines.random, &packed(fields), 0, place % 4);
         unpacked(lines, &word);
     }
     for count in (0..12).flat_map(|_| 0..=2) {
@@ -192,7 +163,7 @@ pub fn unpack(lines: &mut Lines) {
     }
     for bit in [7, 8 + 7, 2 * 8 + 5, 3 * 8 + 6, 4 * 8] {
         let fields = [2, 1, 3, 0, 0x5A];
-        lines.turned("unpack", 0, &word_of(fields).pack(), &fields, bit);
+        lines.turned("unpack", 0, &packed(fields), &fields, bit);
     }
     let reserved = tps_bch_encode(&ones(INFORMATION, &[24, 25]));
     let word: Vec<u8> = std::iter::once(0).chain(reserved).collect();

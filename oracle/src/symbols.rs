@@ -3,12 +3,14 @@
 
 use crate::answer::{Answer, floats};
 use crate::cells::{cells, plainer, shorter, some_floats};
+use crate::fields::GUARDS;
 use crate::harness::{Expected, Run, Subject};
 use crate::lent::{EMPTY, Lent, Room, UNTOUCHED, surroundings};
-use crate::pilots::{GUARDS, LENGTH, OUTPUT_SHORT, phases};
+use crate::pilots::phases;
 use crate::random::Random;
+use crate::refusals::{LENGTH, OUTPUT_SHORT};
 use crate::sys::{SaltCounted, SaltScatteredPilotExtractor, SaltScatteredPilotMapper};
-use crate::{salt_pilots as salt, shrink};
+use crate::{call, shrink};
 use num_complex::Complex32;
 use orion_sdr::core::Block;
 use orion_sdr::multicarrier::{CarrierGrid, GridExtract, GridMap};
@@ -26,14 +28,14 @@ const STATIC_DATA: usize = 3320;
 
 /// Compares all functions of this module, those with a state over sequences of calls.
 pub fn compare(run: &mut Run) {
-    run.compare(Cycle::new("ScatteredPilotMapper::new", &MAPPER, new_cases));
-    run.compare(Cycle::new("ScatteredPilotMapper::map_symbol", &MAPPER, symbol_cases));
-    run.compare(Cycle::new("ScatteredPilotMapper::reset", &MAPPER, reset_cases));
-    run.compare(Cycle::new("ScatteredPilotExtractor::new", &EXTRACTOR, new_cases));
-    run.compare(Cycle::new("ScatteredPilotExtractor::extract_symbol", &EXTRACTOR, symbol_cases));
-    run.compare(Cycle::new("ScatteredPilotExtractor::reset", &EXTRACTOR, reset_cases));
-    run.compare(Static::new("GridMap::process", &GRID_MAP, salt::grid_map, |grid| Box::new(GridMap::new(grid))));
-    run.compare(Static::new("GridExtract::process", &GRID_EXTRACT, salt::grid_extract, |grid| Box::new(GridExtract::new(grid))));
+    run.compare("ScatteredPilotMapper::new", Cycle::new(&MAPPER, new_cases));
+    run.compare("ScatteredPilotMapper::map_symbol", Cycle::new(&MAPPER, symbol_cases));
+    run.compare("ScatteredPilotMapper::reset", Cycle::new(&MAPPER, reset_cases));
+    run.compare("ScatteredPilotExtractor::new", Cycle::new(&EXTRACTOR, new_cases));
+    run.compare("ScatteredPilotExtractor::extract_symbol", Cycle::new(&EXTRACTOR, symbol_cases));
+    run.compare("ScatteredPilotExtractor::reset", Cycle::new(&EXTRACTOR, reset_cases));
+    run.compare("GridMap::process", Static::new(&GRID_MAP, call::grid_map, |grid| Box::new(GridMap::new(grid))));
+    run.compare("GridExtract::process", Static::new(&GRID_EXTRACT, call::grid_extract, |grid| Box::new(GridExtract::new(grid))));
 }
 
 /// What a call reads and writes, with the floats that it needs of each.
@@ -144,10 +146,10 @@ struct Side {
 
 const MAPPER: Side = Side {
     shape: MAP,
-    new: || SaltScatteredPilotMapper::new().phase,
-    reset: |phase| SaltScatteredPilotMapper { phase }.reset().phase,
+    new: || call::mapper_new().phase,
+    reset: |phase| call::mapper_reset(SaltScatteredPilotMapper { phase }).phase,
     symbol: |phase, data, symbol| {
-        let answer = SaltScatteredPilotMapper { phase }.map_symbol(data, symbol);
+        let answer = call::mapper_map_symbol(SaltScatteredPilotMapper { phase }, data, symbol);
         (answer.number, answer.mapper.phase)
     },
     theirs: |guard| Box::new(ScatteredPilotMapper::new(guard)),
@@ -155,10 +157,10 @@ const MAPPER: Side = Side {
 
 const EXTRACTOR: Side = Side {
     shape: EXTRACT,
-    new: || SaltScatteredPilotExtractor::new().phase,
-    reset: |phase| SaltScatteredPilotExtractor { phase }.reset().phase,
+    new: || call::extractor_new().phase,
+    reset: |phase| call::extractor_reset(SaltScatteredPilotExtractor { phase }).phase,
     symbol: |phase, symbol, data| {
-        let answer = SaltScatteredPilotExtractor { phase }.extract_symbol(symbol, data);
+        let answer = call::extractor_extract_symbol(SaltScatteredPilotExtractor { phase }, symbol, data);
         (answer.number, answer.extractor.phase)
     },
     theirs: |guard| Box::new(ScatteredPilotExtractor::new(guard)),
@@ -304,7 +306,6 @@ fn some_step(random: &mut Random, shape: &Shape) -> Step {
 
 /// A function of the mapper or the extractor, and the sequences of calls that try it.
 struct Cycle {
-    name: &'static str,
     side: &'static Side,
     cases: fn(&Shape, &mut Random, &mut dyn FnMut(Frame)),
     theirs: [RefCell<Box<dyn Theirs>>; 4],
@@ -312,8 +313,8 @@ struct Cycle {
 
 impl Cycle {
     /// The function with orion-sdr's mappers or extractors, one for each guard interval.
-    fn new(name: &'static str, side: &'static Side, cases: fn(&Shape, &mut Random, &mut dyn FnMut(Frame))) -> Self {
-        Self { name, side, cases, theirs: GUARDS.map(|guard| RefCell::new((side.theirs)(guard))) }
+    fn new(side: &'static Side, cases: fn(&Shape, &mut Random, &mut dyn FnMut(Frame))) -> Self {
+        Self { side, cases, theirs: GUARDS.map(|guard| RefCell::new((side.theirs)(guard))) }
     }
 
     /// Makes a call on the port's, and adds what it answers.
@@ -363,10 +364,6 @@ fn go_to(theirs: &mut dyn Theirs, phase: usize) {
 
 impl Subject for Cycle {
     type Case = Frame;
-
-    fn name(&self) -> &'static str {
-        self.name
-    }
 
     fn each_case(&self, random: &mut Random, compare: &mut dyn FnMut(Frame)) {
         (self.cases)(&self.side.shape, random, compare);
@@ -419,7 +416,6 @@ type Process = Box<dyn Block<In = Complex32, Out = Complex32>>;
 
 /// Mapping or extraction of the static grid.
 struct Static {
-    name: &'static str,
     shape: &'static Shape,
     ours: fn(&[f32], &mut [f32]) -> SaltCounted,
     theirs: [RefCell<Process>; 4],
@@ -433,9 +429,9 @@ struct Single {
 
 impl Static {
     /// The function with orion-sdr's, one for each guard interval.
-    fn new(name: &'static str, shape: &'static Shape, ours: fn(&[f32], &mut [f32]) -> SaltCounted, theirs: fn(CarrierGrid) -> Process) -> Self {
+    fn new(shape: &'static Shape, ours: fn(&[f32], &mut [f32]) -> SaltCounted, theirs: fn(CarrierGrid) -> Process) -> Self {
         let theirs = GUARDS.map(|guard| RefCell::new(theirs(CarrierGrid::from_plan(&dvb_t_2k_plan(guard)))));
-        Self { name, shape, ours, theirs }
+        Self { shape, ours, theirs }
     }
 
     /// An answer with its number, its count of cells and the output.
@@ -446,10 +442,6 @@ impl Static {
 
 impl Subject for Static {
     type Case = Single;
-
-    fn name(&self) -> &'static str {
-        self.name
-    }
 
     /// `SYMBOLS` symbols, and calls in all rooms.
     fn each_case(&self, random: &mut Random, compare: &mut dyn FnMut(Single)) {

@@ -4,26 +4,23 @@ use crate::answer::{Answer, shown};
 use crate::harness::{Expected, Run, Subject};
 use crate::lent::{EMPTY, Lent, Room, UNTOUCHED, background, surroundings};
 use crate::random::Random;
+use crate::refusals::{LENGTH, OUTPUT_SHORT};
 use crate::sys::SaltCounted;
-use crate::{salt, shrink};
+use crate::{call, shrink};
 use orion_sdr::waveform::dvb_t_ts as orion;
 
 /// Bytes of a packet.
 const PACKET: usize = 188;
 /// Bytes of a packet's payload.
 const PAYLOAD: usize = 187;
-/// Document 01's LENGTH.
-const LENGTH: u8 = 1;
-/// Document 01's OUTPUT SHORT.
-const OUTPUT_SHORT: u8 = 3;
 
 /// Compares all functions of this module.
 pub fn compare(run: &mut Run) {
-    run.compare(Packetize);
-    run.compare(Depacketize);
-    run.compare(NullPacket);
-    run.compare(StuffNullPackets);
-    run.compare(EnergyDisperse);
+    run.compare("ts_packetize", Packetize);
+    run.compare("ts_depacketize", Depacketize);
+    run.compare("ts_null_packet", NullPacket);
+    run.compare("ts_stuff_null_packets", StuffNullPackets);
+    run.compare("ts_energy_disperse", EnergyDisperse);
 }
 
 /// Input bytes and the size of a lent output.
@@ -91,10 +88,6 @@ impl Packetize {
 impl Subject for Packetize {
     type Case = Through;
 
-    fn name(&self) -> &'static str {
-        "ts_packetize"
-    }
-
     /// All lengths to 1,200, and random ones to 200,000 with their neighbours at a packet's end.
     fn each_case(&self, random: &mut Random, compare: &mut dyn FnMut(Through)) {
         let mut lengths: Vec<usize> = (0..=1200).collect();
@@ -110,7 +103,7 @@ impl Subject for Packetize {
     }
 
     fn ours(&self, case: &Through) -> Answer {
-        case.ours(Self::needed(case.input.len()), salt::ts_packetize)
+        case.ours(Self::needed(case.input.len()), call::ts_packetize)
     }
 
     fn expected(&self, case: &Through) -> Expected {
@@ -138,10 +131,6 @@ impl Depacketize {
 impl Subject for Depacketize {
     type Case = Through;
 
-    fn name(&self) -> &'static str {
-        "ts_depacketize"
-    }
-
     /// Whole packets with any first byte, packets as packetizing makes them, and lengths around whole ones.
     fn each_case(&self, random: &mut Random, compare: &mut dyn FnMut(Through)) {
         let mut lengths: Vec<usize> = (0..=400).chain((3..=40).flat_map(|n| [n * PACKET - 1, n * PACKET, n * PACKET + 1])).collect();
@@ -161,7 +150,7 @@ impl Subject for Depacketize {
     }
 
     fn ours(&self, case: &Through) -> Answer {
-        case.ours(Self::needed(case.input.len()), salt::ts_depacketize)
+        case.ours(Self::needed(case.input.len()), call::ts_depacketize)
     }
 
     /// orion-sdr's None is LENGTH, whatever output is lent.
@@ -186,17 +175,13 @@ struct NullPacket;
 impl Subject for NullPacket {
     type Case = ();
 
-    fn name(&self) -> &'static str {
-        "ts_null_packet"
-    }
-
     /// The one case there is.
     fn each_case(&self, _: &mut Random, compare: &mut dyn FnMut(())) {
         compare(());
     }
 
     fn ours(&self, _: &()) -> Answer {
-        Answer::default().bytes("packet", &salt::ts_null_packet())
+        Answer::default().bytes("packet", &call::ts_null_packet().bytes)
     }
 
     fn expected(&self, _: &()) -> Expected {
@@ -254,10 +239,6 @@ impl StuffNullPackets {
 impl Subject for StuffNullPackets {
     type Case = Stuffing;
 
-    fn name(&self) -> &'static str {
-        "ts_stuff_null_packets"
-    }
-
     /// Buffers of 0 to 12 packets and random ones to 300 with all uses and targets of interest, and random ones that are accepted.
     fn each_case(&self, random: &mut Random, compare: &mut dyn FnMut(Stuffing)) {
         let mut lengths: Vec<usize> = (0..=12).flat_map(|n| [n * PACKET, n * PACKET + 1, n * PACKET + 187]).collect();
@@ -282,7 +263,7 @@ impl Subject for StuffNullPackets {
 
     fn ours(&self, case: &Stuffing) -> Answer {
         let mut buffer = Lent::to_write("buffer", &case.buffer);
-        let answer = salt::ts_stuff_null_packets(buffer.slice_mut(), case.used, case.target);
+        let answer = call::ts_stuff_null_packets(buffer.slice_mut(), case.used, case.target);
         let found = surroundings(&mut [&mut buffer]);
         Answer::counted(answer.number, answer.count).bytes("buffer", buffer.slice()).surroundings(&found)
     }
@@ -322,7 +303,7 @@ struct EnergyDisperse;
 impl EnergyDisperse {
     /// Disperses lent packets once, and adds what the port answers.
     fn dispersed(packets: &mut Lent<u8>, before: Answer) -> Answer {
-        let answer = salt::ts_energy_disperse(packets.slice_mut());
+        let answer = call::ts_energy_disperse(packets.slice_mut());
         let found = surroundings(&mut [packets]);
         before.and(Answer::counted(answer.number, answer.count).bytes("packets", packets.slice()).surroundings(&found))
     }
@@ -330,10 +311,6 @@ impl EnergyDisperse {
 
 impl Subject for EnergyDisperse {
     type Case = Vec<u8>;
-
-    fn name(&self) -> &'static str {
-        "ts_energy_disperse"
-    }
 
     /// 0 to 40 packets of random bytes, some large buffers, packets with sync bytes, and ragged lengths.
     fn each_case(&self, random: &mut Random, compare: &mut dyn FnMut(Vec<u8>)) {

@@ -1,75 +1,47 @@
 //! The TPS word: pack and unpack of orion-sdr's TpsWord in dvb_t_tps.rs.
-//! A word is five numbers in the port's C interface: the frame number, document 01's codes for three enums of orion-sdr's, and the cell id.
 
 use crate::answer::{Answer, shown};
-use crate::codes::{LENGTH, NO_WORD, NOT_A_BIT, OUTPUT_SHORT, information, some_places, turned, two_items, with_fewer_ones};
+use crate::codes::{information, some_places, turned, two_items, with_fewer_ones};
+use crate::fields::{orion_fields, orion_word};
 use crate::harness::{Expected, Run, Subject};
 use crate::lent::{EMPTY, Lent, Room, UNTOUCHED, background, surroundings};
 use crate::random::Random;
-use crate::shrink;
+use crate::refusals::{LENGTH, NO_WORD, NOT_A_BIT, OUTPUT_SHORT, RESERVED};
 use crate::sys::{SaltTpsWord, SaltUnpacked};
-use orion_sdr::fec::PunctureRate;
-use orion_sdr::modulate::ConstellationOrder;
-use orion_sdr::waveform::dvb_t::GuardInterval;
+use crate::{call, shrink};
 use orion_sdr::waveform::dvb_t_tps::{self as orion, TpsWord};
 
 /// Bits of a word.
 pub const WORD: usize = 68;
 /// Bits of the information, behind s0.
 const INFORMATION: usize = 53;
-/// Document 01's RESERVED.
-const RESERVED: u8 = 5;
 /// So many received words are unpacked.
 const WORDS: usize = 1_000_000;
-/// orion-sdr's constellations, rates and guard intervals, each at the place of its code.
-const CONSTELLATIONS: [ConstellationOrder; 3] = [ConstellationOrder::Qpsk, ConstellationOrder::Qam16, ConstellationOrder::Qam64];
-const RATES: [PunctureRate; 5] = [PunctureRate::R1_2, PunctureRate::R2_3, PunctureRate::R3_4, PunctureRate::R5_6, PunctureRate::R7_8];
-const GUARDS: [GuardInterval; 4] = [GuardInterval::G1_32, GuardInterval::G1_16, GuardInterval::G1_8, GuardInterval::G1_4];
+/// What stands beside a refusal.
+pub const NONE: SaltTpsWord = SaltTpsWord { frame_number: 0, constellation: 0, code_rate_hp: 0, guard: 0, cell_id: 0 };
 
 /// Compares both functions of this module.
 pub fn compare(run: &mut Run) {
-    run.compare(Pack);
-    run.compare(Unpack);
+    run.compare("TpsWord::pack", Pack);
+    run.compare("TpsWord::unpack", Unpack);
 }
 
-/// orion-sdr's word with these codes; none where a code is outside its enum.
-pub fn orion_word(word: SaltTpsWord) -> Option<TpsWord> {
-    Some(TpsWord {
-        frame_number: word.frame_number,
-        constellation: *CONSTELLATIONS.get(usize::from(word.constellation))?,
-        code_rate_hp: *RATES.get(usize::from(word.code_rate_hp))?,
-        guard: *GUARDS.get(usize::from(word.guard))?,
-        cell_id: word.cell_id,
-    })
-}
-
-/// The codes of a word of orion-sdr's.
-fn codes(word: TpsWord) -> SaltTpsWord {
-    SaltTpsWord {
-        frame_number: word.frame_number,
-        constellation: code(&CONSTELLATIONS, word.constellation),
-        code_rate_hp: code(&RATES, word.code_rate_hp),
-        guard: code(&GUARDS, word.guard),
-        cell_id: word.cell_id,
-    }
-}
-
-/// The code of an enum's case.
-fn code<T: PartialEq>(cases: &[T], case: T) -> u8 {
-    cases.iter().position(|one| *one == case).expect("a case that has a code") as u8
+/// The port's word with these fields.
+fn our_word([frame_number, constellation, code_rate_hp, guard, cell_id]: [u8; 5]) -> SaltTpsWord {
+    SaltTpsWord { frame_number, constellation, code_rate_hp, guard, cell_id }
 }
 
 /// What is owed for 68 bits of which orion-sdr read this word: where it read none, NO WORD if its decoder finds none, else RESERVED.
 pub fn owed(read: Option<TpsWord>, bits: &[u8]) -> SaltUnpacked {
     let number = match (read, orion::tps_bch_decode(&bits[1..])) {
-        (Some(word), _) => return SaltUnpacked { number: 0, word: codes(word) },
+        (Some(word), _) => return SaltUnpacked { number: 0, word: our_word(orion_fields(word)) },
         (None, None) => NO_WORD,
         (None, Some(info)) => {
             assert!(has_reserved_code(&info), "orion-sdr reads no word from codes that aren't reserved: {}", shown(&info));
             RESERVED
         }
     };
-    SaltUnpacked { number, word: SaltTpsWord::NONE }
+    SaltUnpacked { number, word: NONE }
 }
 
 /// Whether information has constellation code 3 (s25, s26) or rate code 5, 6 or 7 (s30 to s32).
@@ -77,10 +49,10 @@ fn has_reserved_code(info: &[u8; INFORMATION]) -> bool {
     info[24..26] == [1, 1] || info[29] == 1 && info[30..32] != [0, 0]
 }
 
-/// A word of random fields.
-pub fn some_fields(random: &mut Random) -> SaltTpsWord {
+/// Random fields of a word.
+fn some_fields(random: &mut Random) -> [u8; 5] {
     let [frame, cell] = [random.next() as u8, random.next() as u8];
-    SaltTpsWord::of([frame, random.below(3) as u8, random.below(5) as u8, random.below(4) as u8, cell])
+    [frame, random.below(3) as u8, random.below(5) as u8, random.below(4) as u8, cell]
 }
 
 /// The bits of a word as it is sent: packed most often; else random information, or packed with a reserved code.
@@ -110,9 +82,9 @@ fn some_received(random: &mut Random) -> [u8; WORD] {
     turned(some_sent(random), some_places(random, wrong) << 1 | u128::from(s0))
 }
 
-/// A word to pack, and the size of the lent output.
+/// The fields of a word to pack, and the size of the lent output.
 struct Packing {
-    word: SaltTpsWord,
+    fields: [u8; 5],
     room: Room,
 }
 
@@ -137,18 +109,18 @@ const OUTPUT: std::ops::Range<usize> = 16..16 + WORD;
 
 impl Pack {
     /// Hands over the word with every kind of room.
-    fn in_every_room(random: &mut Random, word: SaltTpsWord, compare: &mut dyn FnMut(Packing)) {
+    fn in_every_room(random: &mut Random, fields: [u8; 5], compare: &mut dyn FnMut(Packing)) {
         let (longer, short) = (Room::Longer(random.between(2, 100)), Room::Short(random.between(2, WORD)));
         for room in [Room::Exact, Room::Longer(1), longer, Room::Short(1), short, EMPTY] {
-            compare(Packing { word, room });
+            compare(Packing { fields, room });
         }
     }
 
     /// Whether the port writes the bits that are owed, and all other memory is as it was.
-    fn same(word: SaltTpsWord, owed: [u8; WORD]) -> bool {
+    fn same(fields: [u8; 5], owed: [u8; WORD]) -> bool {
         let (mut memory, mut after) = (BULK, BULK);
         after[OUTPUT].copy_from_slice(&owed);
-        let answer = word.pack(&mut memory[OUTPUT]);
+        let answer = call::tps_word_pack(our_word(fields), &mut memory[OUTPUT]);
         answer.number == 0 && answer.count == WORD && *std::hint::black_box(&mut memory) == after
     }
 }
@@ -156,34 +128,29 @@ impl Pack {
 impl Subject for Pack {
     type Case = Packing;
 
-    fn name(&self) -> &'static str {
-        "TpsWord::pack"
-    }
-
     /// Words in every kind of room: random ones, and such with every code of each field, in the enum or outside.
     fn each_case(&self, random: &mut Random, compare: &mut dyn FnMut(Packing)) {
         for (field, code) in (0..5).flat_map(|field| (0..=u8::MAX).map(move |code| (field, code))) {
-            for others in [SaltTpsWord::NONE, some_fields(random), SaltTpsWord::of(std::array::from_fn(|_| random.next() as u8))] {
-                let mut fields = others.fields();
+            for mut fields in [[0; 5], some_fields(random), std::array::from_fn(|_| random.next() as u8)] {
                 fields[field] = code;
-                Self::in_every_room(random, SaltTpsWord::of(fields), compare);
+                Self::in_every_room(random, fields, compare);
             }
         }
         for _ in 0..1000 {
-            let word = some_fields(random);
-            Self::in_every_room(random, word, compare);
+            let fields = some_fields(random);
+            Self::in_every_room(random, fields, compare);
         }
     }
 
     /// All words: every frame number, constellation, rate, guard interval and cell id.
     fn in_bulk(&self, _: &mut Random, differs: &mut dyn FnMut(Packing)) -> usize {
         let mut compared = 0;
-        for fields in (0..3).flat_map(|points| (0..5).flat_map(move |rate| (0..4).map(move |guard| [points, rate, guard]))) {
+        for [points, rate, guard] in (0..3).flat_map(|points| (0..5).flat_map(move |rate| (0..4).map(move |guard| [points, rate, guard]))) {
             for (frame, cell) in (0..=u8::MAX).flat_map(|frame| (0..=u8::MAX).map(move |cell| (frame, cell))) {
-                let word = SaltTpsWord::of([frame, fields[0], fields[1], fields[2], cell]);
+                let fields = [frame, points, rate, guard, cell];
                 compared += 1;
-                if !Self::same(word, orion_word(word).expect("codes of the enums").pack()) {
-                    differs(Packing { word, room: Room::Exact });
+                if !Self::same(fields, orion_word(fields).expect("codes of the enums").pack()) {
+                    differs(Packing { fields, room: Room::Exact });
                 }
             }
         }
@@ -192,7 +159,7 @@ impl Subject for Pack {
 
     fn ours(&self, case: &Packing) -> Answer {
         let mut out = Lent::to_write("output", &case.output());
-        let answer = case.word.pack(out.slice_mut());
+        let answer = call::tps_word_pack(our_word(case.fields), out.slice_mut());
         let found = surroundings(&mut [&mut out]);
         Answer::counted(answer.number, answer.count).bytes("output", out.slice()).surroundings(&found)
     }
@@ -203,7 +170,7 @@ impl Subject for Pack {
         if out.len() < WORD {
             return case.refused(OUTPUT_SHORT);
         }
-        let Some(word) = orion_word(case.word) else {
+        let Some(word) = orion_word(case.fields) else {
             return case.refused(RESERVED);
         };
         out[..WORD].copy_from_slice(&word.pack());
@@ -211,18 +178,18 @@ impl Subject for Pack {
     }
 
     fn smaller<'a>(&'a self, case: &'a Packing) -> Box<dyn Iterator<Item = Packing> + 'a> {
-        let rooms = case.room.smaller().into_iter().map(|room| Packing { word: case.word, room });
-        let fields = (0..5).flat_map(move |field| shrink::numbers(usize::from(case.word.fields()[field])).map(move |less| (field, less)));
+        let rooms = case.room.smaller().into_iter().map(|room| Packing { fields: case.fields, room });
+        let fields = (0..5).flat_map(move |field| shrink::numbers(usize::from(case.fields[field])).map(move |less| (field, less)));
         let words = fields.map(|(field, less)| {
-            let mut fields = case.word.fields();
+            let mut fields = case.fields;
             fields[field] = less as u8;
-            Packing { word: SaltTpsWord::of(fields), room: case.room }
+            Packing { fields, room: case.room }
         });
         Box::new(rooms.chain(words))
     }
 
     fn show(&self, case: &Packing) -> String {
-        let [frame, constellation, rate, guard, cell] = case.word.fields();
+        let [frame, constellation, rate, guard, cell] = case.fields;
         let lent = case.room.size(WORD);
         format!("frame number {frame}, constellation code {constellation}, rate code {rate}, guard code {guard}, cell id {cell}; output of {lent} bytes lent")
     }
@@ -239,16 +206,13 @@ impl Unpack {
 
 /// An answer with a number and a word more.
 pub fn with_word(answer: Answer, name: &str, unpacked: SaltUnpacked) -> Answer {
+    let SaltTpsWord { frame_number, constellation, code_rate_hp, guard, cell_id } = unpacked.word;
     let answer = answer.number(&format!("{name}word's number"), u64::from(unpacked.number));
-    answer.bytes(&format!("{name}word (frame number, codes, cell id)"), &unpacked.word.fields())
+    answer.bytes(&format!("{name}word (frame number, codes, cell id)"), &[frame_number, constellation, code_rate_hp, guard, cell_id])
 }
 
 impl Subject for Unpack {
     type Case = Vec<u8>;
-
-    fn name(&self) -> &'static str {
-        "TpsWord::unpack"
-    }
 
     /// All lengths to 76 and longer ones, every byte above 1 at every place, two such that cancel, and received words.
     fn each_case(&self, random: &mut Random, compare: &mut dyn FnMut(Vec<u8>)) {
@@ -270,7 +234,7 @@ impl Subject for Unpack {
     fn in_bulk(&self, random: &mut Random, differs: &mut dyn FnMut(Vec<u8>)) -> usize {
         for _ in 0..WORDS {
             let bits = some_received(random);
-            if SaltTpsWord::unpack(&bits) != owed(TpsWord::unpack(&bits), &bits) {
+            if call::tps_word_unpack(&bits) != owed(TpsWord::unpack(&bits), &bits) {
                 differs(bits.to_vec());
             }
         }
@@ -279,14 +243,14 @@ impl Subject for Unpack {
 
     fn ours(&self, case: &Vec<u8>) -> Answer {
         let mut bits = Lent::to_read("bits", case);
-        let unpacked = SaltTpsWord::unpack(bits.slice());
+        let unpacked = call::tps_word_unpack(bits.slice());
         let found = surroundings(&mut [&mut bits]);
         Self::answer(unpacked).surroundings(&found)
     }
 
     /// orion-sdr's None is LENGTH where the length isn't 68, whatever the items are; it passes items above 1 on and isn't called for them.
     fn expected(&self, case: &Vec<u8>) -> Expected {
-        let refused = |number| Self::answer(SaltUnpacked { number, word: SaltTpsWord::NONE }).surroundings(UNTOUCHED);
+        let refused = |number| Self::answer(SaltUnpacked { number, word: NONE }).surroundings(UNTOUCHED);
         if case.len() != WORD {
             assert!(TpsWord::unpack(case).is_none(), "orion-sdr unpacks {} bits", case.len());
             return Expected::orion(refused(LENGTH));

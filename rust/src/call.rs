@@ -1,23 +1,10 @@
 //! A safe function over each function of the C interface, and nothing more: a slice becomes its pointer and its length, and a receiver that is lent the
-//! pointers of its three parts.
+//! pointers of its three parts. The comparison with orion-sdr (`oracle/`) calls the library by these functions too.
 //!
-//! Why each is safe: the library is proved to read and write only inside the slices and parts that it is given, for all lengths and values; a slice of
-//! `Complex32`, `Active` or `Bin`, and the cells of a receiver, have the layout of their numbers; and a result is plain numbers, each of whose values is one
-//! of its type.
+//! Why each is safe: the library is proved to read and write only inside the slices and parts that it is given, for all lengths and values; the cells of a
+//! receiver have the layout of their numbers; and a result is plain numbers, each of whose values is one of its type.
 
-use crate::carrier::{Active, Bin};
-use crate::complex::Complex32;
 use crate::sys::*;
-
-/// The floats of cells, re and im in turn: where, and how many.
-fn floats(cells: &[Complex32]) -> (*const f32, usize) {
-    (cells.as_ptr().cast(), 2 * cells.len())
-}
-
-/// The floats of cells that are lent to be written.
-fn floats_mut(cells: &mut [Complex32]) -> (*mut f32, usize) {
-    (cells.as_mut_ptr().cast(), 2 * cells.len())
-}
 
 // ---- cells
 
@@ -121,21 +108,20 @@ pub fn tps_carrier_bins() -> SaltTps {
     unsafe { salt_tps_carrier_bins() }
 }
 
-pub fn scattered_pilot_indices(phase: usize, out: &mut [Active]) -> SaltCounted {
-    unsafe { salt_scattered_pilot_indices(phase, out.as_mut_ptr().cast(), out.len()) }
+pub fn scattered_pilot_indices(phase: usize, out: &mut [u16]) -> SaltCounted {
+    unsafe { salt_scattered_pilot_indices(phase, out.as_mut_ptr(), out.len()) }
 }
 
-pub fn data_bins(phase: usize, out: &mut [Bin]) -> SaltCounted {
-    unsafe { salt_data_bins(phase, out.as_mut_ptr().cast(), out.len()) }
+pub fn data_bins(phase: usize, out: &mut [u16]) -> SaltCounted {
+    unsafe { salt_data_bins(phase, out.as_mut_ptr(), out.len()) }
 }
 
-pub fn static_data_bins(out: &mut [Bin]) -> SaltCounted {
-    unsafe { salt_static_data_bins(out.as_mut_ptr().cast(), out.len()) }
+pub fn static_data_bins(out: &mut [u16]) -> SaltCounted {
+    unsafe { salt_static_data_bins(out.as_mut_ptr(), out.len()) }
 }
 
-pub fn reference_pilot_bins(phase: usize, bins: &mut [Bin], values: &mut [Complex32]) -> SaltCounted {
-    let (values, values_length) = floats_mut(values);
-    unsafe { salt_reference_pilot_bins(phase, bins.as_mut_ptr().cast(), bins.len(), values, values_length) }
+pub fn reference_pilot_bins(phase: usize, bins: &mut [u16], values: &mut [f32]) -> SaltCounted {
+    unsafe { salt_reference_pilot_bins(phase, bins.as_mut_ptr(), bins.len(), values.as_mut_ptr(), values.len()) }
 }
 
 // ---- symbols
@@ -148,9 +134,8 @@ pub fn mapper_reset(mapper: SaltScatteredPilotMapper) -> SaltScatteredPilotMappe
     unsafe { salt_scattered_pilot_mapper_reset(mapper) }
 }
 
-pub fn mapper_map_symbol(mapper: SaltScatteredPilotMapper, cells: &[Complex32], symbol: &mut [Complex32]) -> SaltMapAnswer {
-    let ((cells, cells_length), (symbol, symbol_length)) = (floats(cells), floats_mut(symbol));
-    unsafe { salt_scattered_pilot_mapper_map_symbol(mapper, cells, cells_length, symbol, symbol_length) }
+pub fn mapper_map_symbol(mapper: SaltScatteredPilotMapper, cells: &[f32], symbol: &mut [f32]) -> SaltMapAnswer {
+    unsafe { salt_scattered_pilot_mapper_map_symbol(mapper, cells.as_ptr(), cells.len(), symbol.as_mut_ptr(), symbol.len()) }
 }
 
 pub fn extractor_new() -> SaltScatteredPilotExtractor {
@@ -165,28 +150,24 @@ pub fn extractor_phase(extractor: SaltScatteredPilotExtractor) -> usize {
     unsafe { salt_scattered_pilot_extractor_phase(extractor) }
 }
 
-pub fn extractor_data_bins(extractor: SaltScatteredPilotExtractor, out: &mut [Bin]) -> SaltCounted {
-    unsafe { salt_scattered_pilot_extractor_data_bins(extractor, out.as_mut_ptr().cast(), out.len()) }
+pub fn extractor_data_bins(extractor: SaltScatteredPilotExtractor, out: &mut [u16]) -> SaltCounted {
+    unsafe { salt_scattered_pilot_extractor_data_bins(extractor, out.as_mut_ptr(), out.len()) }
 }
 
-pub fn extractor_current_pilot_bins(extractor: SaltScatteredPilotExtractor, bins: &mut [Bin], values: &mut [Complex32]) -> SaltCounted {
-    let (values, values_length) = floats_mut(values);
-    unsafe { salt_scattered_pilot_extractor_current_pilot_bins(extractor, bins.as_mut_ptr().cast(), bins.len(), values, values_length) }
+pub fn extractor_current_pilot_bins(extractor: SaltScatteredPilotExtractor, bins: &mut [u16], values: &mut [f32]) -> SaltCounted {
+    unsafe { salt_scattered_pilot_extractor_current_pilot_bins(extractor, bins.as_mut_ptr(), bins.len(), values.as_mut_ptr(), values.len()) }
 }
 
-pub fn extractor_extract_symbol(extractor: SaltScatteredPilotExtractor, symbol: &[Complex32], out: &mut [Complex32]) -> SaltExtractAnswer {
-    let ((symbol, symbol_length), (out, out_length)) = (floats(symbol), floats_mut(out));
-    unsafe { salt_scattered_pilot_extractor_extract_symbol(extractor, symbol, symbol_length, out, out_length) }
+pub fn extractor_extract_symbol(extractor: SaltScatteredPilotExtractor, symbol: &[f32], out: &mut [f32]) -> SaltExtractAnswer {
+    unsafe { salt_scattered_pilot_extractor_extract_symbol(extractor, symbol.as_ptr(), symbol.len(), out.as_mut_ptr(), out.len()) }
 }
 
-pub fn grid_map(cells: &[Complex32], symbol: &mut [Complex32]) -> SaltCounted {
-    let ((cells, cells_length), (symbol, symbol_length)) = (floats(cells), floats_mut(symbol));
-    unsafe { salt_grid_map(cells, cells_length, symbol, symbol_length) }
+pub fn grid_map(cells: &[f32], symbol: &mut [f32]) -> SaltCounted {
+    unsafe { salt_grid_map(cells.as_ptr(), cells.len(), symbol.as_mut_ptr(), symbol.len()) }
 }
 
-pub fn grid_extract(symbol: &[Complex32], out: &mut [Complex32]) -> SaltCounted {
-    let ((symbol, symbol_length), (out, out_length)) = (floats(symbol), floats_mut(out));
-    unsafe { salt_grid_extract(symbol, symbol_length, out, out_length) }
+pub fn grid_extract(symbol: &[f32], out: &mut [f32]) -> SaltCounted {
+    unsafe { salt_grid_extract(symbol.as_ptr(), symbol.len(), out.as_mut_ptr(), out.len()) }
 }
 
 // ---- the code of the TPS words
@@ -219,9 +200,8 @@ pub fn tps_encoder_reset(encoder: SaltTpsEncoder) -> SaltTpsEncoder {
     unsafe { salt_tps_encoder_reset(encoder) }
 }
 
-pub fn tps_encoder_next_symbol(encoder: SaltTpsEncoder, bit: u8, out: &mut [Complex32]) -> SaltSent {
-    let (out, out_length) = floats_mut(out);
-    unsafe { salt_tps_encoder_next_symbol(encoder, bit, out, out_length) }
+pub fn tps_encoder_next_symbol(encoder: SaltTpsEncoder, bit: u8, out: &mut [f32]) -> SaltSent {
+    unsafe { salt_tps_encoder_next_symbol(encoder, bit, out.as_mut_ptr(), out.len()) }
 }
 
 pub fn tps_decoder_new() -> SaltTpsDecoder {
@@ -232,15 +212,12 @@ pub fn tps_decoder_reset(decoder: SaltTpsDecoder) -> SaltTpsDecoder {
     unsafe { salt_tps_decoder_reset(decoder) }
 }
 
-#[cfg(test)]
-pub fn tps_decoder_feed_symbol(decoder: SaltTpsDecoder, cells: &[Complex32]) -> SaltTpsFed {
-    let (cells, cells_length) = floats(cells);
-    unsafe { salt_tps_decoder_feed_symbol(decoder, cells, cells_length) }
+pub fn tps_decoder_feed_symbol(decoder: SaltTpsDecoder, cells: &[f32]) -> SaltTpsFed {
+    unsafe { salt_tps_decoder_feed_symbol(decoder, cells.as_ptr(), cells.len()) }
 }
 
-pub fn tps_decoder_feed_in_place(decoder: &mut SaltTpsDecoder, cells: &[Complex32]) -> SaltTpsBit {
-    let ((cells, cells_length), SaltTpsDecoder { prev, bits, count }) = (floats(cells), decoder);
-    unsafe { salt_tps_decoder_feed_in_place(prev.as_mut_ptr().cast(), bits.as_mut_ptr(), count, cells, cells_length) }
+pub fn tps_decoder_feed_in_place(prev: &mut [SaltCell; 17], bits: &mut [u8; 68], count: &mut usize, cells: &[f32]) -> SaltTpsBit {
+    unsafe { salt_tps_decoder_feed_in_place(prev.as_mut_ptr().cast(), bits.as_mut_ptr(), count, cells.as_ptr(), cells.len()) }
 }
 
 pub fn tps_decoder_is_complete(decoder: SaltTpsDecoder) -> u8 {
@@ -265,9 +242,8 @@ pub fn session_reset(session: SaltSession) -> SaltSession {
     unsafe { salt_session_reset(session) }
 }
 
-pub fn session_feed(session: SaltSession, symbol: &[Complex32], out: &mut [Complex32], journal: &mut [f32]) -> SaltSessionFed {
-    let ((symbol, symbol_length), (out, out_length)) = (floats(symbol), floats_mut(out));
-    unsafe { salt_session_feed(session, symbol, symbol_length, out, out_length, journal.as_mut_ptr(), journal.len()) }
+pub fn session_feed(session: SaltSession, symbol: &[f32], out: &mut [f32], journal: &mut [f32]) -> SaltSessionFed {
+    unsafe { salt_session_feed(session, symbol.as_ptr(), symbol.len(), out.as_mut_ptr(), out.len(), journal.as_mut_ptr(), journal.len()) }
 }
 
 pub fn session_step_back(session: SaltSession, journal: &[f32]) -> SaltSessionStepped {
@@ -282,9 +258,8 @@ pub fn session_word(session: SaltSession) -> SaltUnpacked {
     unsafe { salt_session_word(session) }
 }
 
-pub fn session_run(script: &[u8], symbols: &[Complex32], journal: &mut [f32]) -> SaltSession {
-    let (symbols, symbols_length) = floats(symbols);
-    unsafe { salt_session_run(script.as_ptr(), script.len(), symbols, symbols_length, journal.as_mut_ptr(), journal.len()) }
+pub fn session_run(script: &[u8], symbols: &[f32], journal: &mut [f32]) -> SaltSession {
+    unsafe { salt_session_run(script.as_ptr(), script.len(), symbols.as_ptr(), symbols.len(), journal.as_mut_ptr(), journal.len()) }
 }
 
 // ---- the report

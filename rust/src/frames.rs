@@ -2,6 +2,7 @@
 
 use crate::call;
 use crate::complex::Complex32;
+use crate::numbers::{floats, floats_mut};
 use crate::refusal::{accepted, Refusal};
 use crate::sys::{SaltTpsDecoder, SaltTpsEncoder};
 use crate::words::{word_of, TpsWord};
@@ -69,7 +70,7 @@ impl TpsEncoder {
 
     /// [`next_symbol`](Self::next_symbol) into a lent output; gives 17. Refusals: [`Refusal::NotABit`], then [`Refusal::OutputShort`].
     pub fn next_symbol_into(&mut self, bit: u8, out: &mut [Complex32]) -> Result<usize, Refusal> {
-        let sent = call::tps_encoder_next_symbol(self.state, bit, out);
+        let sent = call::tps_encoder_next_symbol(self.state, bit, floats_mut(out));
         self.state = sent.encoder;
         accepted(sent.answer.number, sent.answer.count)
     }
@@ -101,7 +102,8 @@ impl TpsDecoder {
     /// Reads the bit of a symbol's TPS cells, in rising active order: at symbol 0 it is 0; later 1 where the sum of the products with the previous symbol's
     /// cells is below zero. Refusals: [`Refusal::Length`] for fewer than 17 cells, then [`Refusal::Full`] when 68 symbols stand.
     pub fn feed_symbol(&mut self, cells: &[Complex32]) -> Result<u8, Refusal> {
-        let fed = call::tps_decoder_feed_in_place(&mut self.state, cells);
+        let SaltTpsDecoder { prev, bits, count } = &mut self.state;
+        let fed = call::tps_decoder_feed_in_place(prev, bits, count, floats(cells));
         accepted(fed.number, fed.bit)
     }
 
@@ -143,7 +145,7 @@ mod tests {
         for n in 0..TPS_SYMBOLS_PER_FRAME + 2 {
             let cells = encoder.next_symbol((n * n % 7 % 2) as u8).unwrap();
             for length in [TPS_CARRIER_COUNT - 1, TPS_CARRIER_COUNT] {
-                let by_value = call::tps_decoder_feed_symbol(decoder.state, &cells[..length]);
+                let by_value = call::tps_decoder_feed_symbol(decoder.state, floats(&cells[..length]));
                 assert_eq!(decoder.feed_symbol(&cells[..length]), accepted(by_value.number, by_value.bit));
                 assert_eq!(numbers(&decoder.state), numbers(&by_value.decoder));
             }

@@ -59,9 +59,12 @@
 #![deny(unsafe_code)]
 #![warn(missing_docs)]
 
+// All of the interface is declared and covered; feeding a receiver by value is called by a test alone.
 #[allow(unsafe_code)]
+#[cfg_attr(not(test), allow(dead_code))]
 mod call;
-// All of the interface is declared; feeding a receiver by value is called by a test alone.
+#[allow(unsafe_code)]
+mod numbers;
 #[allow(unsafe_code)]
 #[cfg_attr(not(test), allow(dead_code))]
 mod sys;

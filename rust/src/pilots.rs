@@ -3,6 +3,7 @@
 use crate::call;
 use crate::carrier::{Active, Bin};
 use crate::complex::Complex32;
+use crate::numbers::{bins_mut, floats_mut, indices_mut};
 use crate::packets::count_of;
 use crate::refusal::{accepted, Refusal};
 
@@ -98,7 +99,7 @@ pub fn scattered_pilot_indices(phase: usize) -> Vec<Active> {
 
 /// [`scattered_pilot_indices`] into a lent output; gives how many, or [`Refusal::OutputShort`].
 pub fn scattered_pilot_indices_into(phase: usize, out: &mut [Active]) -> Result<usize, Refusal> {
-    count_of(call::scattered_pilot_indices(phase, out))
+    count_of(call::scattered_pilot_indices(phase, indices_mut(out)))
 }
 
 /// The bins of a phase's data carriers, in rising active order; a phase is taken modulo 4.
@@ -117,7 +118,7 @@ pub fn data_bins(phase: usize) -> Vec<Bin> {
 
 /// [`data_bins`] into a lent output; gives 1,512, or [`Refusal::OutputShort`].
 pub fn data_bins_into(phase: usize, out: &mut [Bin]) -> Result<usize, Refusal> {
-    count_of(call::data_bins(phase, out))
+    count_of(call::data_bins(phase, bins_mut(out)))
 }
 
 /// The bins and boosted values of a phase's reference pilots, in rising active order; TPS carriers aren't among them. A phase is taken modulo 4.
@@ -139,5 +140,5 @@ pub fn reference_pilot_bins(phase: usize) -> Vec<(Bin, Complex32)> {
 
 /// [`reference_pilot_bins`] into two lent outputs; gives 176, or [`Refusal::OutputShort`].
 pub fn reference_pilot_bins_into(phase: usize, bins: &mut [Bin], values: &mut [Complex32]) -> Result<usize, Refusal> {
-    count_of(call::reference_pilot_bins(phase, bins, values))
+    count_of(call::reference_pilot_bins(phase, bins_mut(bins), floats_mut(values)))
 }

@@ -2,6 +2,7 @@
 
 use crate::call;
 use crate::complex::Complex32;
+use crate::numbers::{floats, floats_mut};
 use crate::refusal::{accepted, Refusal};
 use crate::sys::SaltSession;
 use crate::words::{word_of, TpsWord};
@@ -57,7 +58,7 @@ impl Session {
     /// 2,048 cells each, the data cells dropped. A call that is refused changes nothing, and the script goes on.
     pub fn run(script: &[u8], symbols: &[Complex32]) -> Self {
         let mut journal = Box::new([0.0; JOURNAL_FLOATS]);
-        let state = call::session_run(script, symbols, &mut journal[..]);
+        let state = call::session_run(script, floats(symbols), &mut journal[..]);
         Self { state, journal }
     }
 
@@ -69,7 +70,7 @@ impl Session {
     /// Takes one symbol of 2,048 cells: gives its TPS bit, and writes its 1,512 data cells to the lent output, in rising active order. Refusals:
     /// [`Refusal::Length`], [`Refusal::OutputShort`], then [`Refusal::Full`] when 68 symbols stand.
     pub fn feed(&mut self, freq: &[Complex32], data_out: &mut [Complex32]) -> Result<u8, Refusal> {
-        let fed = call::session_feed(self.state, freq, data_out, &mut self.journal[..]);
+        let fed = call::session_feed(self.state, floats(freq), floats_mut(data_out), &mut self.journal[..]);
         self.state = fed.session;
         accepted(fed.number, fed.bit)
     }

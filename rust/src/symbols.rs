@@ -3,6 +3,7 @@
 use crate::call;
 use crate::carrier::Bin;
 use crate::complex::Complex32;
+use crate::numbers::{bins_mut, floats, floats_mut};
 use crate::packets::count_of;
 use crate::pilots::{DVB_T_DATA_CARRIERS, DVB_T_N_FFT, DVB_T_REFERENCE_PILOTS};
 use crate::refusal::{accepted, Refusal};
@@ -56,7 +57,7 @@ impl ScatteredPilotMapper {
     /// Makes a symbol: 2,048 cells +0.0, then the 1,512 data cells in their bins, then the boosted value on every reserved carrier, TPS carriers among
     /// them. Refusals: [`Refusal::Length`] for fewer data cells, then [`Refusal::OutputShort`].
     pub fn map_symbol(&mut self, data: &[Complex32], freq_out: &mut [Complex32]) -> Result<(), Refusal> {
-        let answer = call::mapper_map_symbol(self.state, data, freq_out);
+        let answer = call::mapper_map_symbol(self.state, floats(data), floats_mut(freq_out));
         self.state = answer.mapper;
         accepted(answer.number, ())
     }
@@ -104,7 +105,7 @@ impl ScatteredPilotExtractor {
 
     /// [`current_pilot_bins`](Self::current_pilot_bins) into two lent outputs; gives 176, or [`Refusal::OutputShort`].
     pub fn current_pilot_bins_into(&self, bins: &mut [Bin], values: &mut [Complex32]) -> Result<usize, Refusal> {
-        count_of(call::extractor_current_pilot_bins(self.state, bins, values))
+        count_of(call::extractor_current_pilot_bins(self.state, bins_mut(bins), floats_mut(values)))
     }
 
     /// The bins of the next symbol's data carriers, as [`data_bins`](crate::waveform::dvb_t::data_bins) gives them.
@@ -116,13 +117,13 @@ impl ScatteredPilotExtractor {
 
     /// [`data_bins`](Self::data_bins) into a lent output; gives 1,512, or [`Refusal::OutputShort`].
     pub fn data_bins_into(&self, out: &mut [Bin]) -> Result<usize, Refusal> {
-        count_of(call::extractor_data_bins(self.state, out))
+        count_of(call::extractor_data_bins(self.state, bins_mut(out)))
     }
 
     /// Reads the 1,512 data cells of a symbol, in rising active order. Refusals: [`Refusal::Length`] for fewer than 2,048 cells, then
     /// [`Refusal::OutputShort`].
     pub fn extract_symbol(&mut self, freq: &[Complex32], data_out: &mut [Complex32]) -> Result<(), Refusal> {
-        let answer = call::extractor_extract_symbol(self.state, freq, data_out);
+        let answer = call::extractor_extract_symbol(self.state, floats(freq), floats_mut(data_out));
         self.state = answer.extractor;
         accepted(answer.number, ())
     }
@@ -151,7 +152,7 @@ pub fn static_data_bins() -> Vec<Bin> {
 
 /// [`static_data_bins`] into a lent output; gives 1,660, or [`Refusal::OutputShort`].
 pub fn static_data_bins_into(out: &mut [Bin]) -> Result<usize, Refusal> {
-    count_of(call::static_data_bins(out))
+    count_of(call::static_data_bins(bins_mut(out)))
 }
 
 /// Makes symbols of the static grid: 1,660 data cells, and boosted pilots on the continual carriers alone.
@@ -188,7 +189,7 @@ impl GridMap {
 
     /// Makes a symbol. Refusals: [`Refusal::Length`] for fewer than 1,660 data cells, then [`Refusal::OutputShort`].
     pub fn process(&mut self, input: &[Complex32], output: &mut [Complex32]) -> Result<WorkReport, Refusal> {
-        let out_written = count_of(call::grid_map(input, output))?;
+        let out_written = count_of(call::grid_map(floats(input), floats_mut(output)))?;
         Ok(WorkReport { in_read: STATIC_DATA_CARRIERS, out_written })
     }
 }
@@ -215,7 +216,7 @@ impl GridExtract {
 
     /// Reads the data cells of a symbol. Refusals: [`Refusal::Length`] for fewer than 2,048 cells, then [`Refusal::OutputShort`].
     pub fn process(&mut self, input: &[Complex32], output: &mut [Complex32]) -> Result<WorkReport, Refusal> {
-        let out_written = count_of(call::grid_extract(input, output))?;
+        let out_written = count_of(call::grid_extract(floats(input), floats_mut(output)))?;
         Ok(WorkReport { in_read: DVB_T_N_FFT, out_written })
     }
 }

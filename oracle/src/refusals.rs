@@ -1,0 +1,10 @@
+//! Document 01's refusals, by their numbers.
+
+pub const LENGTH: u8 = 1;
+pub const NOT_A_BIT: u8 = 2;
+pub const OUTPUT_SHORT: u8 = 3;
+pub const NO_WORD: u8 = 4;
+pub const RESERVED: u8 = 5;
+pub const FULL: u8 = 6;
+pub const EMPTY: u8 = 7;
+pub const INCOMPLETE: u8 = 8;
