@@ -38,7 +38,7 @@ enum {
     SALT_NOT_A_BIT = 2,    /* a bit argument, or an item of a bit slice, is above 1 */
     SALT_OUTPUT_SHORT = 3, /* a lent output or journal is shorter than needed */
     SALT_NO_WORD = 4,      /* no codeword lies within distance two */
-    SALT_RESERVED = 5,     /* constellation code 3, or rate code 5, 6 or 7 */
+    SALT_RESERVED = 5,     /* constellation code 3, or rate code 5, 6 or 7; of a word handed in, any code that stands for nothing */
     SALT_FULL = 6,         /* a symbol is fed when 68 stand */
     SALT_EMPTY = 7,        /* a step back when none stands */
     SALT_INCOMPLETE = 8,   /* a word is asked for with fewer than 68 */

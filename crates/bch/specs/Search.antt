@@ -1,4 +1,4 @@
--- The textbook decoder's parts, which the private functions of the module `inner` promise: high parts of a polynomial folded down, the syndromes S1 and S3,
+-- The textbook decoder's parts, which the functions of the module `inner` promise: high parts of a polynomial folded down, the syndromes S1 and S3,
 -- what changed places add to the remainder, and the search for the locator's roots. No public promise cites this file.
 use mathlib.Core.Path.{_≡_}
 use mathlib.Core.List.{List, [], _∷_}

@@ -14,10 +14,8 @@ use Rattle.carriers.proofs.Facts.{facts2k}
 use Rattle.grid.specs.declared.ScatteredPilotMapper.{ScatteredPilotMapper}
 use Rattle.grid.specs.declared.ScatteredPilotExtractor.{ScatteredPilotExtractor}
 use Rattle.grid.specs.Symbol.{cellsAt, mapped}
-use Rattle.grid.specs.Calls.{phaseOf, phaseAfter, mapAnswer, extractAnswer}
+use Rattle.grid.specs.Calls.{mapNo, extractNo, mapLeft, extractLeft, phaseOf, phaseAfter, mapNumberOf, mapStateOf, extractNumberOf, extractStateOf, mapAnswer, extractAnswer}
 use Rattle.grid.proofs.Round.{extract-after-map}
-use Rattle.grid.specs.declared.MapAnswer.the-variants as M
-use Rattle.grid.specs.declared.ExtractAnswer.the-variants as X
 
 -- ---- two results of one call, by the promise alone
 
@@ -54,16 +52,43 @@ unfolding steps
 phase-after zero = refl
 phase-after (suc n) = next-phase n (steps n) (phase-after n)
 
+-- ---- what an answer says: its number, and the state in the next phase where that is 0
+
+pub map-says-number : (no : ℕ) (s : ScatteredPilotMapper) → mapNumberOf (mapAnswer no s) ≡ no
+map-says-number zero s = refl
+map-says-number (suc k) s = refl
+
+pub map-says-state : (no : ℕ) (s : ScatteredPilotMapper) → mapStateOf (mapAnswer no s) ≡ kept no (record { phase = phaseAfter (s .phase) }) s
+map-says-state zero s = refl
+map-says-state (suc k) s = refl
+
+pub extract-says-number : (no : ℕ) (s : ScatteredPilotExtractor) → extractNumberOf (extractAnswer no s) ≡ no
+extract-says-number zero s = refl
+extract-says-number (suc k) s = refl
+
+pub extract-says-state : (no : ℕ) (s : ScatteredPilotExtractor) → extractStateOf (extractAnswer no s) ≡ kept no (record { phase = phaseAfter (s .phase) }) s
+extract-says-state zero s = refl
+extract-says-state (suc k) s = refl
+
 -- ---- refusals move nothing
 
-pub refused-map : (no : ℕ) (s : ScatteredPilotMapper) (new old : List Float) → 0 < no → (mapAnswer no s ≡ M.Refused no s) × (kept no new old ≡ old)
-refused-map zero s new old h = absurd (not-suc-le-zero h)
-refused-map (suc k) s new old h = (refl, refl)
+kept-old : {A : Type 0} (no : ℕ) (new old : A) → 0 < no → kept no new old ≡ old
+kept-old zero new old h = absurd (not-suc-le-zero h)
+kept-old (suc k) new old h = refl
 
-pub refused-extract : (no : ℕ) (s : ScatteredPilotExtractor) (new old : List Float) → 0 < no
-    → (extractAnswer no s ≡ X.Refused no s) × (kept no new old ≡ old)
-refused-extract zero s new old h = absurd (not-suc-le-zero h)
-refused-extract (suc k) s new old h = (refl, refl)
+pub refused-map : (s : ScatteredPilotMapper) (p : ℕ) (d o : List Float) → 0 < mapNo mode2k (mode2k .dataCount) d o
+    → (mapStateOf (mapAnswer (mapNo mode2k (mode2k .dataCount) d o) s) ≡ s) × (mapLeft mode2k p d o ≡ o)
+refused-map s p d o h =
+    let no = mapNo mode2k (mode2k .dataCount) d o in
+    (map-says-state no s ∙ kept-old no (record { phase = phaseAfter (s .phase) }) s h, kept-old no (mapped mode2k p d o) o h)
+
+pub refused-extract : (s : ScatteredPilotExtractor) (p : ℕ) (y o : List Float) → 0 < extractNo mode2k (mode2k .dataCount) y o
+    → (extractStateOf (extractAnswer (extractNo mode2k (mode2k .dataCount) y o) s) ≡ s) × (extractLeft mode2k p y o ≡ o)
+refused-extract s p y o h =
+    let no = extractNo mode2k (mode2k .dataCount) y o in (
+      extract-says-state no s ∙ kept-old no (record { phase = phaseAfter (s .phase) }) s h,
+      kept-old no (written (cellsAt y (dataBins mode2k p)) o) o h,
+    )
 
 -- ---- mapping, then extraction in the same phase: the output begins with the data, by bits
 

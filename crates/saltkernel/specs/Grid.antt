@@ -1,13 +1,11 @@
 -- Document 01, 'Refusal numbers' and 'Pilot grid', over the C interface: the answers of the mapper and of the extractor as numbers, 0 for accepted;
 -- a refused call has the state as it went in.
 use mathlib.Core.Path.{_≡_}
-use Prim.Native.Nat.{ℕ}
 use Rattle.grid.specs.declared.ScatteredPilotMapper.{ScatteredPilotMapper}
 use Rattle.grid.specs.declared.ScatteredPilotExtractor.{ScatteredPilotExtractor}
 use Rattle.grid.specs.declared.MapAnswer.{MapAnswer}
 use Rattle.grid.specs.declared.ExtractAnswer.{ExtractAnswer}
-use Rattle.grid.specs.declared.MapAnswer.the-variants as M
-use Rattle.grid.specs.declared.ExtractAnswer.the-variants as X
+use Rattle.grid.specs.Calls.{mapNumberOf, mapStateOf, extractNumberOf, extractStateOf}
 use Rattle.saltkernel.specs.declared.symbols.SaltScatteredPilotMapper.{SaltScatteredPilotMapper}
 use Rattle.saltkernel.specs.declared.symbols.SaltScatteredPilotExtractor.{SaltScatteredPilotExtractor}
 use Rattle.saltkernel.specs.declared.symbols.SaltMapAnswer.{SaltMapAnswer}
@@ -19,24 +17,6 @@ mapperOf s = record { phase = s .phase }
 
 abbrev pub extractorOf : SaltScatteredPilotExtractor → ScatteredPilotExtractor
 extractorOf s = record { phase = s .phase }
-
--- document 01's number and the mapper, for each case of the answer
-abbrev pub mapNumberOf : MapAnswer → ℕ
-mapNumberOf (M.Mapped s) = 0
-mapNumberOf (M.Refused k s) = k
-
-abbrev pub mapStateOf : MapAnswer → ScatteredPilotMapper
-mapStateOf (M.Mapped s) = s
-mapStateOf (M.Refused k s) = s
-
--- the same for the extractor
-abbrev pub extractNumberOf : ExtractAnswer → ℕ
-extractNumberOf (X.Extracted s) = 0
-extractNumberOf (X.Refused k s) = k
-
-abbrev pub extractStateOf : ExtractAnswer → ScatteredPilotExtractor
-extractStateOf (X.Extracted s) = s
-extractStateOf (X.Refused k s) = s
 
 -- the number and the state are what the answer says
 pub record SaysMapped (r : SaltMapAnswer) (a : MapAnswer) : Type 0 where

@@ -23,7 +23,7 @@ use Rattle.session.proofs.Decoder.{held, decoder-held}
 use Rattle.session.proofs.History.{history, same-session, same-used, same-shown, fed-alone}
 use Rattle.session.proofs.Feeding.{fed-right}
 use Rattle.session.proofs.Stepping.{stepped-right}
-use Rattle.session.proofs.Words.{word-below, word-full, word-none}
+use Rattle.session.proofs.Words.{word-below, word-full, word-one, word-none}
 
 -- any run leaves what feeding the standing symbols in order leaves: the whole session, and the used journal
 pub demand-3-whole : {j₀ j₁ j k : List Float} {os : List Op} {s t : Session} (room : ℕ) → JOURNAL ≤ length j₁ → 3024 ≤ room → Run j₀ os s j
@@ -73,6 +73,7 @@ demand-3-word {j₀} {j} {os} {s} {r} any w =
     record {
       below = λ l. word-below (length st) d r k l v;
       full = λ l. word-full d r (rw l at k) v;
+      one = λ l b c hb hc nb nc. word-one d (rw l at k) b c hb hc nb nc;
       none = λ l. word-none d r (rw l at k) v;
     }
 

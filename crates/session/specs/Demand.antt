@@ -8,6 +8,7 @@ use lib.Ieee.{Float}
 use lib.ListN.{length, take, drop}
 use Rattle.ground.specs.Refusal.{ACCEPTED, NO-WORD, INCOMPLETE}
 use Rattle.carriers.specs.Mode.{mode2k}
+use Rattle.bch.specs.Code.{Codeword, distance}
 use Rattle.bch.specs.Promise.{Lone}
 use Rattle.grid.specs.Calls.{extractLeft, phaseOf}
 use Rattle.tps.specs.declared.Unpacked.{Unpacked}
@@ -64,9 +65,11 @@ pub record BackRight (st : List (List Float)) (s : Session) (p : List Float) (r 
   pub refused : (stepNumber (r .answer) ≡ ACCEPTED → ⊥) → r .session ≡ s
 
 -- a call for the word with st standing: with fewer than 68, INCOMPLETE; with 68, what the codeword within two of the bits s1..s67 tells (a word, or that
--- a code is reserved), and NO WORD exactly when there is none
+-- a code is reserved), of which there is at most one, and NO WORD exactly when there is none
 pub record WordRight (st : List (List Float)) (r : Unpacked) : Type 0 where
   pub below : length st < SYMBOLS → r ≡ unpacked.Refused INCOMPLETE
   pub full : length st ≡ SYMBOLS
       → Received (drop 1 (decoderAfter st .bits)) r ⊎ (Lone (drop 1 (decoderAfter st .bits)) × (r ≡ unpacked.Refused NO-WORD))
+  pub one : length st ≡ SYMBOLS → (b c : List ℕ) → Codeword b → Codeword c → distance b (drop 1 (decoderAfter st .bits)) ≤ 2
+      → distance c (drop 1 (decoderAfter st .bits)) ≤ 2 → b ≡ c
   pub none : length st ≡ SYMBOLS → (r ≡ unpacked.Refused NO-WORD) ↔ Lone (drop 1 (decoderAfter st .bits))

@@ -89,7 +89,7 @@ tells-one s (Word w) (Refused n) h k = absurd (not-reserved s w h (k .0))
 tells-one s (Refused m) (Word v) h k = absurd (not-reserved s v k (h .0))
 tells-one s (Refused m) (Refused n) h k = ap Refused (h .1 ∙ sym (k .1))
 
-refused-is : (r : Unpacked) (k : ℕ) → numberOf r ≡ suc k → r ≡ Refused (suc k)
+pub refused-is : (r : Unpacked) (k : ℕ) → numberOf r ≡ suc k → r ≡ Refused (suc k)
 refused-is (Word w) k e = absurd (omega (arith, e))
 refused-is (Refused n) k e = ap Refused e
 
