@@ -1,4 +1,4 @@
-# What run, store and bench share; each of them sources this file after `set -euo pipefail`.
+# What run, store, bench and wrong share; each of them sources this file after `set -euo pipefail`.
 
 root=$(cd "$(dirname "${BASH_SOURCE[0]}")/.." && pwd -P)
 build=${ORION_SDR_BUILD:-$root/../shared/oracle/build}
@@ -51,7 +51,7 @@ build_orion() {
 # Proves the port and writes its static library, where there is none or a file of crates/ is newer.
 build_saltkernel() {
     local log=$out/staticlib.log archive=$root/target/staticlib/libsaltkernel.a
-    [ -f "$archive" ] && [ -z "$(find "$root/crates.txt" "$root/crates" -newer "$archive" -print -quit)" ] && return 0
+    [ -f "$archive" ] && [ -z "$(find "$root/crates.txt" "$root/crates" -type f ! -name wrong-programs.txt -newer "$archive" -print -quit)" ] && return 0
     (cd "$root" && rt staticlib saltkernel) >"$log" 2>&1 </dev/null || give_up "rt staticlib saltkernel did not succeed" "$log"
 }
 
@@ -61,13 +61,18 @@ build_tpsreport() {
     "$root/bin/tpsreport" >"$log" 2>&1 </dev/null || give_up "bin/tpsreport did not succeed" "$log"
 }
 
-# Compiles oracle/src/$1.rs to target/oracle/$1, with the further arguments for rustc.
-compile() {
-    local name=$1 log=$out/$1.log
-    shift
+# Compiles oracle/src/$2.rs to target/oracle/$1, with the further arguments for rustc.
+compile_as() {
+    local made=$1 name=$2 log=$out/$1.log
+    shift 2
     rustc --edition 2021 -C opt-level=3 --crate-name "oracle_$name" -L dependency="$out/orion" \
         --extern orion_sdr="$out/orion/liborion_sdr.rlib" --extern num_complex="$out/orion/libnum_complex.rlib" \
-        "$@" -o "$out/$name" "$root/oracle/src/$name.rs" >"$log" 2>&1 || give_up "oracle/src/$name.rs did not compile" "$log"
+        "$@" -o "$out/$made" "$root/oracle/src/$name.rs" >"$log" 2>&1 || give_up "oracle/src/$name.rs did not compile" "$log"
+}
+
+# Compiles oracle/src/$1.rs to target/oracle/$1, with the further arguments for rustc.
+compile() {
+    compile_as "$1" "$@"
 }
 
 # The arguments for rustc that link the port's static library.

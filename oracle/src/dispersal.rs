@@ -19,9 +19,10 @@ pub fn compare(run: &mut Run) {
     run.compare("DvbTEnergyDispersal::feed", Whitener { cases: feed_cases });
 }
 
-/// One call on a whitener (`AdvanceByte` so many times).
+/// One call on a whitener (`AdvanceByte` so many times); `Hand` is none: the whitener is handed in with the bit above its register set.
 #[derive(Clone)]
 enum Step {
+    Hand,
     Reset,
     AdvanceByte(usize),
     FeedInPlace(Vec<u8>),
@@ -32,6 +33,7 @@ impl Step {
     /// Makes the call on the port's whitener, and adds what it answers.
     fn ours(&self, whitener: SaltDvbTEnergyDispersal, answer: Answer) -> (SaltDvbTEnergyDispersal, Answer) {
         match self {
+            Step::Hand => (SaltDvbTEnergyDispersal { reg: whitener.reg | 1 << REGISTER }, answer),
             Step::Reset => (call::energy_dispersal_reset(whitener), answer),
             Step::AdvanceByte(times) => ((0..*times).fold(whitener, |state, _| call::energy_dispersal_advance_byte(state)), answer),
             Step::FeedInPlace(bytes) => {
@@ -54,6 +56,7 @@ impl Step {
     /// Makes the call on orion-sdr's whitener, and adds what is owed; a refused feed leaves the whitener as it was.
     fn theirs(&self, whitener: &mut DvbTEnergyDispersal, answer: Answer) -> Answer {
         match self {
+            Step::Hand => (),
             Step::Reset => whitener.reset(),
             Step::AdvanceByte(times) => (0..*times).for_each(|_| whitener.advance_byte()),
             Step::FeedInPlace(bytes) => {
@@ -80,10 +83,15 @@ impl Step {
         matches!(self, Step::Feed(bytes, room) if room.size(bytes.len()) < bytes.len())
     }
 
+    /// Whether the bit above the register is set after the call: a refusal gives the whitener back as it went in.
+    fn leaves_above(&self, above: bool) -> bool {
+        matches!(self, Step::Hand) || above && self.refused()
+    }
+
     /// Calls with less in them.
     fn smaller(&self) -> Box<dyn Iterator<Item = Step> + '_> {
         match self {
-            Step::Reset => Box::new(std::iter::empty()),
+            Step::Hand | Step::Reset => Box::new(std::iter::empty()),
             Step::AdvanceByte(times) => Box::new(shrink::numbers(*times).filter(|less| *less > 0).map(Step::AdvanceByte)),
             Step::FeedInPlace(bytes) => Box::new(shrink::bytes(bytes).map(Step::FeedInPlace)),
             Step::Feed(bytes, room) => {
@@ -96,12 +104,21 @@ impl Step {
     /// The call in words.
     fn show(&self) -> String {
         match self {
+            Step::Hand => "handed in with bit 15 of the register's number set".to_string(),
             Step::Reset => "reset".to_string(),
             Step::AdvanceByte(times) => format!("advance_byte {times} times"),
             Step::FeedInPlace(bytes) => format!("feed_in_place of {} bytes: {}", bytes.len(), shown(bytes)),
             Step::Feed(bytes, room) => format!("feed of {} bytes: {}, output of {} bytes lent", bytes.len(), shown(bytes), room.size(bytes.len())),
         }
     }
+}
+
+/// Bits of the register.
+const REGISTER: u32 = 15;
+
+/// An answer with whether a bit above the register is set.
+fn above(answer: Answer, set: bool) -> Answer {
+    answer.number("a bit above the register's 15", u64::from(set))
 }
 
 /// A function of the whitener, by the sequences of calls that try it.
@@ -117,14 +134,22 @@ impl Subject for Whitener {
     }
 
     fn ours(&self, case: &Vec<Step>) -> Answer {
-        let start = (call::energy_dispersal_new(), Answer::default());
-        case.iter().chain([&probe()]).fold(start, |(whitener, answer), step| step.ours(whitener, answer)).1
+        let start = call::energy_dispersal_new();
+        let start = (start, above(Answer::default(), start.reg >> REGISTER != 0));
+        let called = case.iter().chain([&probe()]).fold(start, |(whitener, answer), step| {
+            let (after, answer) = step.ours(whitener, answer);
+            (after, above(answer, after.reg >> REGISTER != 0))
+        });
+        called.1
     }
 
     fn expected(&self, case: &Vec<Step>) -> Expected {
-        let mut whitener = DvbTEnergyDispersal::new();
-        let answer = case.iter().chain([&probe()]).fold(Answer::default(), |answer, step| step.theirs(&mut whitener, answer));
-        if case.iter().any(Step::refused) { Expected::document(answer) } else { Expected::orion(answer) }
+        let (mut whitener, mut set) = (DvbTEnergyDispersal::new(), false);
+        let answer = case.iter().chain([&probe()]).fold(above(Answer::default(), false), |answer, step| {
+            set = step.leaves_above(set);
+            above(step.theirs(&mut whitener, answer), set)
+        });
+        if case.iter().any(|step| step.refused() || matches!(step, Step::Hand)) { Expected::document(answer) } else { Expected::orion(answer) }
     }
 
     fn smaller<'a>(&'a self, case: &'a Vec<Step>) -> Box<dyn Iterator<Item = Vec<Step>> + 'a> {
@@ -195,6 +220,7 @@ fn feed_cases(random: &mut Random, compare: &mut dyn FnMut(Vec<Step>)) {
     }
     for _ in 0..400 {
         compare(sequence(random, 4));
+        compare(sequence(random, 5));
     }
 }
 
@@ -203,14 +229,15 @@ fn sequence(random: &mut Random, kinds: usize) -> Vec<Step> {
     (0..random.between(1, 10)).map(|_| step(random, kinds)).collect()
 }
 
-/// A call out of the first so many kinds: feed_in_place, advance_byte, reset, feed.
+/// A call out of the first so many kinds: feed_in_place, advance_byte, reset, feed, and the whitener handed in.
 fn step(random: &mut Random, kinds: usize) -> Step {
     let length = random.below(400) >> random.below(8);
     match random.below(kinds) {
         0 => Step::FeedInPlace(random.bytes(length)),
         1 => Step::AdvanceByte(random.between(1, 40)),
         2 => Step::Reset,
-        _ => Step::Feed(random.bytes(length), room(random)),
+        3 => Step::Feed(random.bytes(length), room(random)),
+        _ => Step::Hand,
     }
 }
 

@@ -37,6 +37,10 @@ pub type Cases<Case> = fn(&mut Random, &mut dyn FnMut(Case));
 pub trait Subject {
     /// One input, with all the memory that is lent.
     type Case;
+    /// Whether orion-sdr has such a function, or one that it is made of; document 01 says all answers where it hasn't.
+    fn in_orion(&self) -> bool {
+        true
+    }
     /// Hands over each case in turn.
     fn each_case(&self, random: &mut Random, compare: &mut dyn FnMut(Self::Case));
     /// Compares further cases by a quick way of the subject's own: hands over one that differs, and gives how many were compared with orion-sdr.
@@ -53,10 +57,20 @@ pub trait Subject {
     fn show(&self, case: &Self::Case) -> String;
 }
 
+/// What a run is asked for.
+pub struct Wanted {
+    pub seed: u64,
+    /// So many times the cases.
+    pub times: usize,
+    /// The comparisons whose name has one of these texts, or all where there is none.
+    pub only: Vec<String>,
+    /// Whether the first difference is printed as it was found, with no search for a smaller one.
+    pub first: bool,
+}
+
 /// One run over all functions.
 pub struct Run {
-    seed: u64,
-    times: usize,
+    wanted: Wanted,
     passed: usize,
 }
 
@@ -64,28 +78,39 @@ pub struct Run {
 const SHRINKING: Duration = Duration::from_secs(20);
 
 impl Run {
-    /// A run from a seed, with so many times the cases.
-    pub fn new(seed: u64, times: usize) -> Self {
-        println!("seed {seed}, times {times} (each function draws its cases from the seed mixed with its name)");
-        Self { seed, times, passed: 0 }
+    /// A run as it is asked for.
+    pub fn new(wanted: Wanted) -> Self {
+        println!("seed {}, times {} (each function draws its cases from the seed mixed with its name)", wanted.seed, wanted.times);
+        Self { wanted, passed: 0 }
+    }
+
+    /// Whether the comparison of this name is asked for.
+    fn wants(&self, name: &str) -> bool {
+        self.wanted.only.is_empty() || self.wanted.only.iter().any(|text| name.contains(text.as_str()))
     }
 
     /// Compares one function, by its name as orion-sdr has it; the first difference ends the program.
     pub fn compare<S: Subject>(&mut self, name: &str, subject: S) {
+        if !self.wants(name) {
+            return;
+        }
         print!("{name}: ");
         std::io::stdout().flush().ok();
         let (mut by_orion, mut by_document) = (0, 0);
-        let mut random = Random::named(self.seed, name);
-        for _ in 0..self.times {
+        let mut random = Random::named(self.wanted.seed, name);
+        for _ in 0..self.wanted.times {
             subject.each_case(&mut random, &mut |case| match self.source(&subject, case) {
                 Source::Orion => by_orion += 1,
                 Source::Document => by_document += 1,
             });
             by_orion += subject.in_bulk(&mut random, &mut |case| self.differed(&subject, case));
         }
-        assert!(by_orion > 0, "no case of {name} was compared with orion-sdr");
-        let refusals = if by_document > 0 { format!(", {by_document} refusals, by document 01") } else { String::new() };
-        println!("{by_orion} compared with orion-sdr{refusals}: equal");
+        assert!(by_orion > 0 || !subject.in_orion() && by_document > 0, "no case of {name} was compared with orion-sdr");
+        match (by_orion, by_document) {
+            (0, _) => println!("{by_document} held against document 01, and orion-sdr has none: equal"),
+            (_, 0) => println!("{by_orion} compared with orion-sdr: equal"),
+            _ => println!("{by_orion} compared with orion-sdr, {by_document} refusals, by document 01: equal"),
+        }
         self.passed += 1;
     }
 
@@ -102,7 +127,7 @@ impl Run {
     fn differed<S: Subject>(&self, subject: &S, case: S::Case) {
         let shown = subject.show(&case);
         self.source(subject, case);
-        println!("DIFFERENT once, and equal when it was tried again (seed {})", self.seed);
+        println!("DIFFERENT once, and equal when it was tried again (seed {})", self.wanted.seed);
         println!("  input: {shown}");
         self.fail();
     }
@@ -120,11 +145,11 @@ impl Run {
 
     /// Prints the smallest case that shows a difference and both answers, and ends the program.
     fn differs<S: Subject>(&self, subject: &S, case: S::Case) -> ! {
-        let (case, done) = smallest(subject, case);
+        let (case, done) = if self.wanted.first { (case, true) } else { smallest(subject, case) };
         let (expected, ours) = (subject.expected(&case), subject.ours(&case));
         let other = if expected.source == Source::Orion { "orion-sdr" } else { "document 01" };
-        println!("DIFFERENT (seed {})", self.seed);
-        println!("  smallest input: {}", subject.show(&case));
+        println!("DIFFERENT (seed {})", self.wanted.seed);
+        println!("  {} input: {}", if self.wanted.first { "first" } else { "smallest" }, subject.show(&case));
         if !done {
             println!("  (the search for a smaller one was ended after {} s)", SHRINKING.as_secs());
         }

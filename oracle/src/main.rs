@@ -12,14 +12,19 @@ mod fields;
 mod gray;
 mod harness;
 mod lent;
+mod lines;
 mod pilots;
 mod points;
 mod random;
+mod reader;
 mod receiver;
 mod refusals;
+mod reports;
+mod same;
 mod sender;
 mod session;
 mod session_calls;
+mod session_run;
 mod session_scripts;
 mod session_sides;
 mod shrink;
@@ -35,8 +40,8 @@ mod words;
 const SEED: u64 = 300_744;
 
 fn main() {
-    let (seed, times) = arguments();
-    let mut run = harness::Run::new(seed, times);
+    let mut run = harness::Run::new(arguments());
+    same::compare(&mut run);
     ts::compare(&mut run);
     dispersal::compare(&mut run);
     gray::compare(&mut run);
@@ -47,26 +52,34 @@ fn main() {
     sender::compare(&mut run);
     receiver::compare(&mut run);
     session::compare(&mut run);
+    session_run::compare(&mut run);
+    reports::compare(&mut run);
+    reader::compare(&mut run);
     run.finish();
 }
 
-/// The seed and how many times the cases are run, from the command line.
-fn arguments() -> (u64, usize) {
-    let (mut seed, mut times) = (SEED, 1);
+/// What the command line asks for.
+fn arguments() -> harness::Wanted {
+    let mut wanted = harness::Wanted { seed: SEED, times: 1, only: Vec::new(), first: false };
     let mut words = std::env::args().skip(1);
     while let Some(word) = words.next() {
-        let value = words.next().and_then(|text| text.parse::<u64>().ok());
-        match (word.as_str(), value) {
-            ("--seed", Some(number)) => seed = number,
-            ("--times", Some(number)) if number > 0 => times = number as usize,
+        if word == "--first" {
+            wanted.first = true;
+            continue;
+        }
+        let value = words.next().unwrap_or_else(|| usage());
+        match (word.as_str(), value.parse::<u64>()) {
+            ("--seed", Ok(number)) => wanted.seed = number,
+            ("--times", Ok(number)) if number > 0 => wanted.times = number as usize,
+            ("--only", _) => wanted.only.push(value),
             _ => usage(),
         }
     }
-    (seed, times)
+    wanted
 }
 
 /// Says what the command line may hold, and ends the program.
 fn usage() -> ! {
-    eprintln!("oracle/run [--seed N] [--times K]: N a whole number, K at least 1");
+    eprintln!("oracle/run [--seed N] [--times K] [--only TEXT].. [--first]: N a whole number, K at least 1");
     std::process::exit(2);
 }

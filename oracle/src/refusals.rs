@@ -8,3 +8,4 @@ pub const RESERVED: u8 = 5;
 pub const FULL: u8 = 6;
 pub const EMPTY: u8 = 7;
 pub const INCOMPLETE: u8 = 8;
+pub const BAD_LINE: u8 = 9;

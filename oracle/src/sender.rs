@@ -1,5 +1,5 @@
 //! The TPS sender: orion-sdr's TpsEncoder of dvb_t_tps.rs.
-//! Its signs are private there, so two senders are compared by the cells that they send.
+//! Its signs are private there, so what the port's sender holds is compared with the cells that orion-sdr's sent last, or sends at symbol 0.
 
 use crate::answer::Answer;
 use crate::harness::{Cases, Expected, Run, Subject};
@@ -46,28 +46,32 @@ impl Step {
     /// Makes the call on the port's sender, and adds what it answers, with whether a refusal gave the sender back as it went in.
     fn ours(self, (encoder, answer): (SaltTpsEncoder, Answer), place: usize) -> (SaltTpsEncoder, Answer) {
         let Step::Next(bit, room) = self else {
-            return (call::tps_encoder_reset(encoder), answer);
+            let reset = call::tps_encoder_reset(encoder);
+            return (reset, holding(answer, &reset.signs, reset.started));
         };
         let mut out = Lent::to_write("cells", &no_values(room.size(CELLS)));
         let sent = call::tps_encoder_next_symbol(encoder, bit, out.slice_mut());
         let found = surroundings(&mut [&mut out]);
         let kept = sent.answer.number == 0 || same(&sent.encoder, &encoder);
-        (sent.encoder, answered(answer, place, sent.answer.number, sent.answer.count, out.slice(), kept).surroundings(&found))
+        let answer = answered(answer, place, sent.answer.number, sent.answer.count, out.slice(), kept).surroundings(&found);
+        (sent.encoder, holding(answer, &sent.encoder.signs, sent.encoder.started))
     }
 
     /// Makes the call on orion-sdr's sender, and adds what is owed; a refused call is not made.
-    fn theirs(self, encoder: &mut TpsEncoder, answer: Answer, place: usize) -> Answer {
+    fn theirs(self, sender: &mut Theirs, answer: Answer, place: usize) -> Answer {
         let Step::Next(bit, room) = self else {
-            encoder.reset();
-            return answer;
+            sender.encoder.reset();
+            (sender.signs, sender.started) = (first_signs(), false);
+            return holding(answer, &sender.signs, sender.started);
         };
         let (number, mut out) = (self.number(), no_values(room.size(CELLS)));
         if number == 0 {
-            let cells = encoder.next_symbol(bit);
-            out.chunks_exact_mut(2).zip(cells).for_each(|(floats, cell)| floats.copy_from_slice(&[cell.re, cell.im]));
+            let cells = sender.encoder.next_symbol(bit);
+            out.chunks_exact_mut(2).zip(&cells).for_each(|(floats, cell)| floats.copy_from_slice(&[cell.re, cell.im]));
+            (sender.signs, sender.started) = (cells.map(|cell| cell.re), true);
         }
         let count = if number == 0 { CARRIERS } else { 0 };
-        answered(answer, place, number, count, &out, true).surroundings(UNTOUCHED)
+        holding(answered(answer, place, number, count, &out, true).surroundings(UNTOUCHED), &sender.signs, sender.started)
     }
 
     /// Calls with less in them.
@@ -84,6 +88,23 @@ impl Step {
             Step::Next(bit, room) => format!("bit {bit} into {} f32", room.size(CELLS)),
         }
     }
+}
+
+/// orion-sdr's sender, the signs of the cells that it sent last, or sends at symbol 0, and whether it sent any.
+struct Theirs {
+    encoder: TpsEncoder,
+    signs: [f32; CARRIERS],
+    started: bool,
+}
+
+/// The signs of the cells at symbol 0.
+fn first_signs() -> [f32; CARRIERS] {
+    TpsEncoder::new().next_symbol(0).map(|cell| cell.re)
+}
+
+/// An answer with what a sender holds.
+fn holding(answer: Answer, signs: &[f32], started: bool) -> Answer {
+    answer.exact_floats("signs held", signs).number("started", u64::from(started))
 }
 
 /// Whether two senders have the same bits.
@@ -114,14 +135,15 @@ impl Subject for Sender {
     }
 
     fn ours(&self, case: &Vec<Step>) -> Answer {
-        let start = (call::tps_encoder_new(), Answer::default());
+        let encoder = call::tps_encoder_new();
+        let start = (encoder, holding(Answer::default(), &encoder.signs, encoder.started));
         case.iter().chain(&PROBE).enumerate().fold(start, |so_far, (place, step)| step.ours(so_far, place)).1
     }
 
     fn expected(&self, case: &Vec<Step>) -> Expected {
-        let mut encoder = TpsEncoder::new();
-        let steps = case.iter().chain(&PROBE).enumerate();
-        let answer = steps.fold(Answer::default(), |answer, (place, step)| step.theirs(&mut encoder, answer, place));
+        let mut sender = Theirs { encoder: TpsEncoder::new(), signs: first_signs(), started: false };
+        let start = holding(Answer::default(), &sender.signs, sender.started);
+        let answer = case.iter().chain(&PROBE).enumerate().fold(start, |answer, (place, step)| step.theirs(&mut sender, answer, place));
         if case.iter().any(|step| step.number() != 0) { Expected::document(answer) } else { Expected::orion(answer) }
     }
 

@@ -27,7 +27,7 @@ pub fn compare(run: &mut Run) {
 }
 
 /// The port's word with these fields.
-fn our_word([frame_number, constellation, code_rate_hp, guard, cell_id]: [u8; 5]) -> SaltTpsWord {
+pub fn our_word([frame_number, constellation, code_rate_hp, guard, cell_id]: [u8; 5]) -> SaltTpsWord {
     SaltTpsWord { frame_number, constellation, code_rate_hp, guard, cell_id }
 }
 
@@ -73,7 +73,7 @@ pub fn some_sent(random: &mut Random) -> [u8; WORD] {
 }
 
 /// The bits of a word as it is received: random ones, or those of a sent word with none to six wrong; s0 is either.
-fn some_received(random: &mut Random) -> [u8; WORD] {
+pub fn some_received(random: &mut Random) -> [u8; WORD] {
     let s0 = random.next() & 1;
     if random.below(8) == 0 {
         return turned([0; WORD], u128::from(random.next()) << 4 | u128::from(random.next() & 15));
