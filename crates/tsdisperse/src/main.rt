@@ -2,9 +2,16 @@
 ghost use mathlib.Core.Path.{_≡_};
 ghost use Prim.Native.Nat.{_≤_};
 ghost use lib.ListN.{length};
+ghost use Rattle.io.specs.Counts.{Counts};
 use ground::Counted;
 use libc::STDIN_FILENO;
 use libc::STDOUT_FILENO;
+
+// How many bytes stand at the front of a buffer that was to be filled, and whether a read failed.
+struct Filled {
+    count: usize,
+    failed: bool,
+}
 
 // What a turn left: go on, or stop.
 enum Next {
@@ -43,16 +50,53 @@ fn put(payload: &[u8], out: &mut [u8]) -> bool {
     whiten_and_write(&mut out[..n])
 }
 
+// Reads once, and counts what stands at the front of the buffer.
+fn read_some(part: &mut [u8]) -> Filled
+    ensures { λ r. ⌜ r .count ≤ length (now (part .exit)) ⌝ }
+{
+    let got = libc::read(STDIN_FILENO, part);
+    Filled {
+        count: io::count(got, part),
+        failed: got < 0,
+    }
+}
+
+// Reads until a buffer is full, the input ends or a read fails.
+fn fill(input: &mut [u8]) -> Filled
+    ensures { λ r. ⌜ Counts (r .count) (now (input .exit)) ⌝ }
+{
+    let mut count = 0;
+    while count < input.len() {
+        let more = read_some(&mut input[count..]);
+        if more.count == 0 {
+            return Filled {
+                count,
+                failed: more.failed,
+            };
+        }
+        count += more.count;
+    }
+    Filled {
+        count,
+        failed: false,
+    }
+}
+
 // Reads whole groups, or the input's last part, and writes their packets; an empty input makes one packet.
 fn turn(first: bool, input: &mut [u8], out: &mut [u8]) -> Next {
-    let n = io::read_full(STDIN_FILENO, input);
+    let filled = fill(input);
+    if filled.failed {
+        os::fail(b"tsdisperse: input");
+        return Next::End;
+    }
+    let n = filled.count;
     if n == 0 {
         if !first {
             return Next::End;
         }
     }
     if !put(&input[..n], out) {
-        os::fail(b"output");
+        os::fail(b"tsdisperse: output");
         return Next::End;
     }
     if n < input.len() {
