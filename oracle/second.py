@@ -9,6 +9,9 @@ import subprocess
 import sys
 
 root = pathlib.Path(__file__).resolve().parent.parent
+sys.path.insert(0, str(root / "tests"))
+from programs import applied  # noqa: E402
+
 TOP = "saltkernel"
 CONTRACT = re.compile(r"^ *(ghost use|requires|ensures) .*\n", flags=re.M)
 TYPE = re.compile(r"^(pub(\(crate\))? )?(struct|enum) ", flags=re.M)
@@ -80,12 +83,7 @@ def sources(crate, edits=()):
     """The files of a crate's source as Rust by name, with a wrong program's edits applied."""
     found = {}
     for file in sorted((root / "crates" / crate / "src").glob("*.rt")):
-        text = file.read_text()
-        for path, at, old, new in sorted(edits, key=lambda edit: -edit[1]):
-            if path == f"src/{file.name}":
-                assert text[at : at + len(old)] == old
-                text = text[:at] + new + text[at + len(old) :]
-        found[file.stem + ".rs"] = as_rust(text)
+        found[file.stem + ".rs"] = as_rust(applied(f"src/{file.name}", file.read_text(), edits))
     if crate == TOP:
         found["lib.rs"] += LENDING
     return found

@@ -1,4 +1,4 @@
-"""wrong.py SECOND [--named] [--reasons] [NAME..]: runs the comparison with orion-sdr on the library that second.py compiled into SECOND, and then on each wrong
+"""wrong.py SECOND [--must-fail] [--reasons] [NAME..]: runs the comparison with orion-sdr on the library that second.py compiled into SECOND, and then on each wrong
 program of the crates named, or of all. As oracle/wrong calls it."""
 import argparse
 import concurrent.futures
@@ -90,7 +90,7 @@ def arguments():
     """What the command line asks for."""
     parser = argparse.ArgumentParser()
     parser.add_argument("second", type=pathlib.Path)
-    parser.add_argument("--named", action="store_true")
+    parser.add_argument("--must-fail", action="store_true")
     parser.add_argument("--reasons", action="store_true")
     parser.add_argument("crates", nargs="*", metavar="NAME", choices=[[], *second.crates()])
     return parser.parse_args()
@@ -109,10 +109,10 @@ def main():
     print(f"the source compiled by rustc: equal in {len(names)} comparisons", flush=True)
     passed, failed = 1, 0
     with concurrent.futures.ThreadPoolExecutor(WORKERS) as pool:
-        for crate in second.crates():
-            wanted = edits(root, crate) + ([] if words.named else programs(root, crate)) if not words.crates or crate in words.crates else []
+        for crate in words.crates or second.crates():
+            wanted = edits(root, crate) + ([] if words.must_fail else programs(root, crate))
             results = zip(wanted, pool.map(lambda program: tried(base, names, limit, crate, program), wanted))
-            found, missed = told(crate, results, words.reasons) if wanted else (0, 0)
+            found, missed = told(crate, results, words.reasons)
             passed, failed = passed + found, failed + missed
     print(f"{passed} passed, {failed} failed")
     return int(failed > 0)

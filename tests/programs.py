@@ -1,8 +1,9 @@
 """The functions of a crate's source, and its wrong programs, as tests/wrong, tests/promises and oracle/wrong read them.
 
-In crates/NAME/wrong-programs.txt a wrong program is a line `NAME of FUNCTION: what it does wrong`, or `NAME of FUNCTION in PLACE: ..` where it changes
-another function of the crate or a file, and pairs of lines: behind `- ` a text that stands once in that place, and behind `+ ` what stands there instead.
-Those that document 01 names are must-fail edits of the toolchain (crates/NAME/must-fail/), whose first line is `# of FUNCTION: what it does wrong`."""
+In crates/NAME/wrong-programs.txt a wrong program is a line `NAME of FUNCTION: what it does wrong`, or `NAME of FUNCTION in OTHER: ..` where it changes
+another function of the crate, and pairs of lines: behind `- ` a text that stands once in that function, and behind `+ ` what stands there instead. Some are
+must-fail edits of the toolchain instead (crates/NAME/must-fail/), whose first line is `# of FUNCTION: what it does wrong`: those that document 01 names,
+those that change a table or a definition, and one or two of each other crate."""
 import dataclasses
 import re
 
@@ -11,12 +12,13 @@ FUNCTION = re.compile(r'^( *)(pub(\([a-z]+\))? )?(extern "C" )?fn (\w+)')
 
 @dataclasses.dataclass
 class Program:
-    """A wrong program: its name, the public function that it is one of, what it does wrong, and its edits as (file, place, old, new)."""
+    """A wrong program: its name, the public function that it is one of, what it does wrong, the function that it changes, where it is one of
+    wrong-programs.txt, and its edits as (file, place, old, new)."""
 
     name: str
     of: str
     wrong: str
-    functions: set
+    changed: str
     edits: list
 
 
@@ -42,6 +44,15 @@ def functions(root, crate):
     return found
 
 
+def applied(path, text, edits):
+    """The text of a file with those of the edits that are its own."""
+    for where, at, old, new in sorted(edits, key=lambda edit: -edit[1]):
+        if where == path:
+            assert text[at : at + len(old)] == old, f"{path}: it doesn't stand there: {old}"
+            text = text[:at] + new + text[at + len(old) :]
+    return text
+
+
 def programs(root, crate):
     """The wrong programs of a crate."""
     path = root / "crates" / crate / "wrong-programs.txt"
@@ -49,13 +60,12 @@ def programs(root, crate):
         return []
     known, made, old = functions(root, crate), [], None
     for line in path.read_text().splitlines():
-        head = re.match(r"^(\w+) of ([\w:]+)(?: in ([\w:./]+))?: (.+)$", line)
+        head = re.match(r"^(\w+) of ([\w:]+)(?: in ([\w:]+))?: (.+)$", line)
         if head:
             place = head[3] or head[2]
-            assert "/" in place or place in known, f"{crate} {head[1]}: there is no {place}"
-            file, begin, end, _ = known[place] if place in known else (place, 0, None, False)
-            changed = {f"{crate}::{place}"} if place in known else set()
-            made.append(Program(head[1], head[2], head[4], changed, []))
+            assert place in known, f"{crate} {head[1]}: there is no {place}"
+            file, begin, end, _ = known[place]
+            made.append(Program(head[1], head[2], head[4], f"{crate}::{place}", []))
             whole = (root / "crates" / crate / file).read_text()
         elif line.startswith("- "):
             old = line[2:]
@@ -72,7 +82,7 @@ def edits(root, crate):
     for path in sorted((root / "crates" / crate / "must-fail").glob("*.edit")):
         head = re.match(r"^# of ([\w:]+): (.+)$", path.read_text(), flags=re.M)
         assert head, f"{crate} {path.stem}: it doesn't say what it is a wrong program of"
-        program, file, old = Program(path.stem, head[1], head[2], set(), []), "", ""
+        program, file, old = Program(path.stem, head[1], head[2], "", []), "", ""
         for line in path.read_text().splitlines():
             if line.startswith("file: "):
                 file = line[6:]

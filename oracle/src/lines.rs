@@ -1,5 +1,6 @@
 //! Document 01's report line by line, over orion-sdr's `TpsWord::unpack`: what a line says, and the text of a word's line.
 
+use crate::refusals::{BAD_LINE, NO_WORD, RESERVED};
 use orion_sdr::fec::PunctureRate;
 use orion_sdr::modulate::ConstellationOrder;
 use orion_sdr::waveform::dvb_t::GuardInterval;
@@ -12,18 +13,18 @@ pub const DIGITS: usize = 17;
 /// The word of a line, or the refusal's number.
 pub fn read_line(line: &[u8]) -> Result<TpsWord, u8> {
     if line.len() != DIGITS {
-        return Err(9);
+        return Err(BAD_LINE);
     }
     let mut bits = [0u8; 4 * DIGITS];
     for (digit, four) in line.iter().zip(bits.chunks_exact_mut(4)) {
         let value = match digit {
             b'0'..=b'9' => digit - b'0',
             b'a'..=b'f' => digit - b'a' + 10,
-            _ => return Err(9),
+            _ => return Err(BAD_LINE),
         };
         four.copy_from_slice(&[value >> 3, value >> 2 & 1, value >> 1 & 1, value & 1]);
     }
-    TpsWord::unpack(&bits).ok_or_else(|| if tps_bch_decode(&bits[1..]).is_some() { 5 } else { 4 })
+    TpsWord::unpack(&bits).ok_or_else(|| if tps_bch_decode(&bits[1..]).is_some() { RESERVED } else { NO_WORD })
 }
 
 /// The line of a word.

@@ -2,6 +2,8 @@
 //! answers one `None`, which is RESERVED where its own decoder finds a codeword, and NO WORD elsewhere.
 
 mod lines;
+#[allow(dead_code)]
+mod refusals;
 
 use lines::{put_word, read_line};
 use std::io::{self, BufRead, BufReader, BufWriter, Write};

@@ -1,9 +1,8 @@
 -- A receiver that is lent in parts: the cells that were written are read back, what stands after a symbol is what feeding it answers, and two results that meet
 -- the promise of feeding it are equal. Assumes nothing.
-use mathlib.Core.Path.{_≡_, refl, sym, ap, _∙_}
-use mathlib.Core.List.{List, [], _∷_}
-use Prim.Native.Nat.{ℕ, zero, suc, _+_, _*_, _<_, _≤_}
-use native.Mathlib.Omega.{arith}
+use mathlib.Core.Path.{_≡_, sym, ap, _∙_}
+use mathlib.Core.List.{List}
+use Prim.Native.Nat.{ℕ, _+_, _<_, _≤_}
 use lib.Ieee.{Float}
 use lib.ListN.{length, drop, set}
 use Rattle.ground.specs.Answer.{written}
@@ -14,7 +13,7 @@ use Rattle.tps.specs.declared.TpsBit.the-variants.{Bit}
 use Rattle.tps.specs.declared.Fed.{Fed}
 use Rattle.tps.specs.Receive.{firstCells, bitOf, fedOf}
 use Rattle.tps.specs.Lent.{lentDecoder, lentFed}
-use Rattle.tps.proofs.Received.{cells-length, cells-back, feed-bit}
+use Rattle.tps.proofs.Received.{cells-length, cells-back, cells-flat, feed-bit}
 
 pub cells-held : (s o p : List Float) → p ≡ written (flat (firstCells 17 s)) o → firstCells 17 p ≡ firstCells 17 s
 cells-held s o p e =
@@ -32,15 +31,6 @@ module _ (prev : List Float) (bits : List ℕ) (count : ℕ) (s : List Float) (h
       (eb ∙ ap (λ (x : List Cell). bitOf count x (firstCells 17 prev)) (sym ec))
 
 -- ---- the parts are told by the receiver
-
--- 34 floats are told by their 17 cells
-cells-flat : (n : ℕ) (s : List Float) → length s ≡ 2 * n → flat (firstCells n s) ≡ s
-unfolding firstCells flat
-cells-flat zero [] h = refl
-cells-flat zero (x ∷ s) h = absurd (omega arith)
-cells-flat (suc n) [] h = absurd (omega arith)
-cells-flat (suc n) (x ∷ []) h = absurd (omega arith)
-cells-flat (suc n) (x ∷ y ∷ s) h = ap (λ (t : List Float). x ∷ y ∷ t) (cells-flat n s (omega arith))
 
 pub lent-determined : (f : Fed) (r q : TpsBit) (p p′ : List Float) (b b′ : List ℕ) (n n′ : ℕ) → length p ≡ 34 → length p′ ≡ 34
     → lentFed r p b n ≡ f → lentFed q p′ b′ n′ ≡ f → (r ≡ q) × (p ≡ p′) × (b ≡ b′) × (n ≡ n′)

@@ -50,6 +50,15 @@ unfolding firstCells flat
 cells-back [] q = refl
 cells-back (c ∷ l) q = ap (λ (r : List Cell). c ∷ r) (cells-back l q)
 
+-- and two floats a cell are told by the cells
+pub cells-flat : (n : ℕ) (s : List Float) → length s ≡ 2 * n → flat (firstCells n s) ≡ s
+unfolding firstCells flat
+cells-flat zero [] h = refl
+cells-flat zero (x ∷ s) h = absurd (omega arith)
+cells-flat (suc n) [] h = absurd (omega arith)
+cells-flat (suc n) (x ∷ []) h = absurd (omega arith)
+cells-flat (suc n) (x ∷ y ∷ s) h = ap (λ (t : List Float). x ∷ y ∷ t) (cells-flat n s (omega arith))
+
 -- ---- the answers
 
 module _ (d : TpsDecoder) (s : List Float) where
