@@ -2,19 +2,24 @@
  * Saltkernel: the DVB-T 2K waveform layer of a bench analyser. C99 and C++.
  *
  * Link with libsaltkernel.a (`rt staticlib saltkernel` writes target/staticlib/libsaltkernel.a, for x86-64).
+ * `include/generate` makes include/saltkernel.h and rust/src/sys.rs from crates/saltkernel: change them there.
  *
- * A slice is two arguments, a pointer and a length in items. The pointer isn't null, even where the length is 0, and is aligned for its type.
- * The slices of one call don't overlap. A `const` one is only read; into any other the call writes what is said of it and nothing behind that.
- * A pointer with no length beside it is a slice whose length is said at its function.
+ * A slice is two arguments, a pointer and a length in items. The pointer isn't null, even where the length is 0, and
+ * is aligned for its type. The slices of one call don't overlap. A `const` one is only read; into any other the call
+ * writes what is said of it and nothing behind that. A pointer with no length beside it is a slice whose length is
+ * said at its function.
  *
- * Every function is defined for all values and all lengths. A call that can't be done is refused: its answer has the refusal's number,
- * every other part of the answer is 0 or the state as it went in, and every slice is unchanged. Number 0 is accepted. Of several refusals that
- * apply the first is given, in the order in which each function names them.
+ * Every function is defined for all values and all lengths. A call that can't be done is refused: its answer has the
+ * refusal's number, every other part of the answer is 0 or the state as it went in, and every slice is unchanged.
+ * Number 0 is accepted. Of several refusals that apply the first is given, in the order in which each function names
+ * them.
  *
- * State is passed and returned by value, or lent to salt_tps_decoder_feed_in_place; no function keeps any, so calls may be made from any thread. What a
- * state's fields hold is no secret: a state that is copied is a second one, and a state that is made by hand is read as said at its type.
+ * State is passed and returned by value, or lent to salt_tps_decoder_feed_in_place; no function keeps any, so calls
+ * may be made from any thread. What a state's fields hold is no secret: a state that is copied is a second one, and a
+ * state that is made by hand is read as said at its type.
  *
- * A cell is a carrier's value, two floats: re, then im. A slice of n cells is 2 n floats, re and im in turn. A bit is a byte that is 0 or 1.
+ * A cell is a carrier's value, two floats: re, then im. A slice of n cells is 2 n floats, re and im in turn. A bit is
+ * a byte that is 0 or 1.
  *
  * ETSI EN 300 744 is the standard that sections (4.3.1 and others) refer to.
  */
@@ -29,7 +34,7 @@
 extern "C" {
 #endif
 
-/* ---- refusals */
+/* ---- Refusals */
 
 /* The numbers of an answer. */
 enum {
@@ -38,54 +43,48 @@ enum {
     SALT_NOT_A_BIT = 2,    /* a bit argument, or an item of a bit slice, is above 1 */
     SALT_OUTPUT_SHORT = 3, /* a lent output or journal is shorter than needed */
     SALT_NO_WORD = 4,      /* no codeword lies within distance two */
-    SALT_RESERVED = 5,     /* constellation code 3, or rate code 5, 6 or 7; of a word handed in, any code that stands for nothing */
+    SALT_RESERVED = 5,     /* a code that stands for nothing: of a received word, constellation 3 or rate 5, 6 or 7 */
     SALT_FULL = 6,         /* a symbol is fed when 68 stand */
     SALT_EMPTY = 7,        /* a step back when none stands */
     SALT_INCOMPLETE = 8,   /* a word is asked for with fewer than 68 */
-    SALT_BAD_LINE = 9      /* a line of the report's input isn't 17 digits from 0-9 and a-f */
+    SALT_BAD_LINE = 9      /* the report's input line isn't 17 digits from 0-9 and a-f */
 };
 
-/* ---- sizes */
+/* ---- Sizes */
 
-#define SALT_PACKET_BYTES 188        /* a transport packet */
-#define SALT_PAYLOAD_BYTES 187       /* of which payload */
-#define SALT_SYNC_BYTE 0x47          /* the first byte of a packet */
-#define SALT_GROUP_PACKETS 8         /* packets from one restart of the whitener's register to the next */
-#define SALT_SOFT_VALUES 6           /* room for the soft values of one cell */
+#define SALT_PACKET_BYTES 188  /* a transport packet */
+#define SALT_PAYLOAD_BYTES 187 /* of which payload */
+#define SALT_SYNC_BYTE 0x47    /* the first byte of a packet */
+#define SALT_GROUP_PACKETS 8   /* packets from one restart of the whitener's register to the next */
+#define SALT_SOFT_VALUES 6     /* room for the soft values of one cell */
 
 #define SALT_SYMBOL_CELLS 2048       /* the bins of a symbol */
-#define SALT_SYMBOL_FLOATS 4096
+#define SALT_SYMBOL_FLOATS 4096      /* their floats, re and im in turn */
 #define SALT_DATA_CELLS 1512         /* the data carriers of a symbol */
-#define SALT_DATA_FLOATS 3024
+#define SALT_DATA_FLOATS 3024        /* their floats */
 #define SALT_STATIC_DATA_CELLS 1660  /* the data carriers of the static grid */
-#define SALT_STATIC_DATA_FLOATS 3320
+#define SALT_STATIC_DATA_FLOATS 3320 /* their floats */
 #define SALT_REFERENCE_PILOTS 176    /* the continual and scattered carriers of a symbol */
-#define SALT_REFERENCE_FLOATS 352
+#define SALT_REFERENCE_FLOATS 352    /* their floats */
 #define SALT_SCATTERED_PHASES 4      /* the phases of the scattered pilots */
 #define SALT_SCATTERED_MOST 143      /* the scattered carriers of phase 0; the other phases have 142 */
-#define SALT_CONTINUAL_CARRIERS 45
-#define SALT_TPS_CARRIERS 17
-#define SALT_TPS_FLOATS 34
+#define SALT_CONTINUAL_CARRIERS 45   /* the continual carriers */
+#define SALT_TPS_CARRIERS 17         /* the TPS carriers */
+#define SALT_TPS_FLOATS 34           /* their floats */
 #define SALT_ACTIVE_CARRIERS 1705    /* active indices are 0 to 1704 */
 #define SALT_SIGNED_LAST 852         /* signed indices are -852 to 852 */
 
-#define SALT_TPS_INFORMATION_BITS 53
-#define SALT_TPS_CODEWORD_BITS 67
+#define SALT_TPS_INFORMATION_BITS 53 /* the information bits of a TPS codeword */
+#define SALT_TPS_CODEWORD_BITS 67    /* the bits of a TPS codeword */
 #define SALT_TPS_WORD_BITS 68        /* a zero bit s0 and the codeword; the symbols of a frame are as many */
 #define SALT_JOURNAL_FLOATS 2312     /* a session's journal: the TPS cells of 68 symbols */
 
-#define SALT_LINE_DIGITS 17          /* a line of the report's input: the 68 bits of a word, four a digit */
-#define SALT_HEADING_BYTES 34        /* the report's heading */
-#define SALT_LINE_ROOM 60            /* room for every line of the report */
-#define SALT_CLOSE_ROOM 120          /* room for the report's end */
+#define SALT_LINE_DIGITS 17   /* a line of the report's input: the 68 bits of a word, four a digit */
+#define SALT_HEADING_BYTES 34 /* the report's heading */
+#define SALT_LINE_ROOM 60     /* room for every line of the report */
+#define SALT_CLOSE_ROOM 120   /* room for the report's end */
 
-/* ---- answers that more than one group has */
-
-/* A count, or a refusal's number and the count 0. */
-typedef struct SaltCounted {
-    uint8_t number;
-    size_t count;
-} SaltCounted;
+/* ---- Cells */
 
 /* A cell by value. */
 typedef struct SaltCell {
@@ -96,13 +95,13 @@ typedef struct SaltCell {
 /* 1 where both parts of two cells have the same bits, any NaN counting as any other; else 0. */
 uint8_t salt_cell_same(SaltCell cell, SaltCell other);
 
-/* A cell, or a refusal's number and the cell +0.0, +0.0. */
-typedef struct SaltMapped {
-    uint8_t number;
-    SaltCell point;
-} SaltMapped;
+/* ---- Transport packets, and energy dispersal over them (4.3.1) */
 
-/* ---- transport packets */
+/* A count, or a refusal's number and the count 0. */
+typedef struct SaltCounted {
+    uint8_t number;
+    size_t count;
+} SaltCounted;
 
 /* The bytes of a packet. */
 typedef struct SaltPacket {
@@ -110,15 +109,15 @@ typedef struct SaltPacket {
 } SaltPacket;
 
 /*
- * Puts a payload into packets: each is 0x47 and 187 bytes of the payload, the last one filled with zeros. An empty payload gives one packet.
- * Answers the bytes written, 188 max(1, ceil(payload_length / 187)).
+ * Puts a payload into packets: each is 0x47 and 187 bytes of the payload, the last one filled with zeros. An empty
+ * payload gives one packet. Answers the bytes written, 188 max(1, ceil(payload_length / 187)).
  * Refusals: 3 OUTPUT SHORT.
  */
 SaltCounted salt_ts_packetize(const uint8_t *payload, size_t payload_length, uint8_t *out, size_t out_length);
 
 /*
- * Takes packets apart: the 187 bytes behind each first byte, which isn't checked.
- * Answers the bytes written, 187 a packet.
+ * Takes packets apart: the 187 bytes behind each first byte, which isn't checked. Answers the bytes written, 187 a
+ * packet.
  * Refusals: 1 LENGTH (no byte, or not whole packets), 3 OUTPUT SHORT.
  */
 SaltCounted salt_ts_depacketize(const uint8_t *packets, size_t packets_length, uint8_t *out, size_t out_length);
@@ -127,20 +126,20 @@ SaltCounted salt_ts_depacketize(const uint8_t *packets, size_t packets_length, u
 SaltPacket salt_ts_null_packet(void);
 
 /*
- * Writes null packets behind the `used` bytes in use at the front of the buffer, up to a target in packets; a target at or below what is there
- * writes nothing. Answers the bytes then in use.
+ * Writes null packets behind the `used` bytes in use at the front of the buffer, up to a target in packets; a target
+ * at or below what is there writes nothing. Answers the bytes then in use.
  * Refusals: 1 LENGTH (used is past the buffer, or not whole packets), 3 OUTPUT SHORT (the target is past the buffer).
  */
 SaltCounted salt_ts_stuff_null_packets(uint8_t *ts, size_t ts_length, size_t used, size_t target);
 
-/* ---- energy dispersal (4.3.1) */
-
 /*
- * Whitens packets in place, or gives whitened ones back: in every group of eight the register restarts at the first packet, whose first byte is
- * XORed with 0xFF; the other first bytes stay. Answers the packets; an empty buffer has 0.
+ * Whitens packets in place, or gives whitened ones back: in every group of eight the register restarts at the first
+ * packet, whose first byte is XORed with 0xFF; the other first bytes stay. Answers the packets; an empty buffer has 0.
  * Refusals: 1 LENGTH (not whole packets).
  */
 SaltCounted salt_ts_energy_disperse(uint8_t *packets, size_t packets_length);
+
+/* ---- The whitener of energy dispersal (4.3.1) */
 
 /* The whitener: its register is the low 15 bits. */
 typedef struct SaltDvbTEnergyDispersal {
@@ -163,17 +162,27 @@ SaltDvbTEnergyDispersal salt_dvb_t_energy_dispersal_reset(SaltDvbTEnergyDispersa
 SaltDvbTEnergyDispersal salt_dvb_t_energy_dispersal_advance_byte(SaltDvbTEnergyDispersal whitener);
 
 /* Whitens bytes in place, high bit first, and returns the whitener behind them. */
-SaltDvbTEnergyDispersal salt_dvb_t_energy_dispersal_feed_in_place(SaltDvbTEnergyDispersal whitener, uint8_t *bytes, size_t bytes_length);
+SaltDvbTEnergyDispersal salt_dvb_t_energy_dispersal_feed_in_place(SaltDvbTEnergyDispersal whitener, uint8_t *bytes,
+                                                                  size_t bytes_length);
 
 /*
  * Whitens bytes into an output. Answers the bytes written and the whitener behind them.
  * Refusals: 3 OUTPUT SHORT.
  */
-SaltFed salt_dvb_t_energy_dispersal_feed(SaltDvbTEnergyDispersal whitener, const uint8_t *bytes, size_t bytes_length, uint8_t *out, size_t out_length);
+SaltFed salt_dvb_t_energy_dispersal_feed(SaltDvbTEnergyDispersal whitener, const uint8_t *bytes, size_t bytes_length,
+                                         uint8_t *out, size_t out_length);
 
-/* ---- Gray mapping (4.3.5) */
+/* ---- Gray mapping, hard and soft demapping (4.3.5) */
 
-/* The first `count` values, 2, 4 or 6, and +0.0 behind them; or a refusal's number, the count 0 and +0.0 throughout. */
+/* A cell, or a refusal's number and the cell +0.0, +0.0. */
+typedef struct SaltMapped {
+    uint8_t number;
+    SaltCell point;
+} SaltMapped;
+
+/*
+ * The first `count` values, 2, 4 or 6, and +0.0 behind them; or a refusal's number, the count 0 and +0.0 throughout.
+ */
 typedef struct SaltSoft {
     uint8_t number;
     size_t count;
@@ -181,43 +190,44 @@ typedef struct SaltSoft {
 } SaltSoft;
 
 /*
- * The point of a group of 2, 4 or 6 bits (QPSK, 16-QAM, 64-QAM): even bits, high first, index the I axis, odd bits the Q axis.
+ * The point of a group of 2, 4 or 6 bits (QPSK, 16-QAM, 64-QAM): even bits, high first, index the I axis, odd bits the
+ * Q axis.
  * Refusals: 1 LENGTH (another group size), 2 NOT A BIT.
  */
 SaltMapped salt_dvb_t_map_symbol(const uint8_t *bits, size_t bits_length);
 
 /*
- * The v bits of the point nearest to a cell: on each axis the first index with the least distance. NaN or an infinity gives index 0 on its axis.
- * Answers v.
+ * The v bits of the point nearest to a cell: on each axis the first index with the least distance. NaN or an infinity
+ * gives index 0 on its axis. Answers v.
  * Refusals: 1 LENGTH (v isn't 2, 4 or 6), 3 OUTPUT SHORT.
  */
 SaltCounted salt_dvb_t_demap_symbol(SaltCell sym, size_t v, uint8_t *out, size_t out_length);
 
 /*
- * The soft values of a cell's v bits: the least squared distance to a level whose bit is 1 minus the same for 0, so positive where 0 is likelier.
- * A NaN or infinite coordinate gives NaN on its axis.
+ * The soft values of a cell's v bits: the least squared distance to a level whose bit is 1 minus the same for 0, so
+ * positive where 0 is likelier. A NaN or infinite coordinate gives NaN on its axis.
  * Refusals: 1 LENGTH (v isn't 2, 4 or 6).
  */
 SaltSoft salt_dvb_t_soft_llr(SaltCell sym, size_t v);
 
-/* ---- carriers and pilots (4.5) */
+/* ---- Carriers and pilots (4.5) */
 
 /*
- * A carrier is counted in three ways, and each argument and answer says in which: an active index, 0 to 1704; a signed index, active - 852;
- * a bin, signed modulo 2,048. A phase of the scattered pilots is taken modulo 4.
+ * A carrier is counted in three ways, and each argument and answer says in which: an active index, 0 to 1704; a signed
+ * index, active - 852; a bin, signed modulo 2,048. A phase of the scattered pilots is taken modulo 4.
  */
-
-/* An active index or a bin, or a refusal's number and the index 0. */
-typedef struct SaltCarrier {
-    uint8_t number;
-    uint16_t index;
-} SaltCarrier;
 
 /* A signed index, or a refusal's number and the index 0. */
 typedef struct SaltSigned {
     uint8_t number;
     int16_t index;
 } SaltSigned;
+
+/* An active index or a bin, or a refusal's number and the index 0. */
+typedef struct SaltCarrier {
+    uint8_t number;
+    uint16_t index;
+} SaltCarrier;
 
 /* The continual carriers, in rising active order. */
 typedef struct SaltContinual {
@@ -247,7 +257,10 @@ SaltCarrier salt_signed_to_bin(int16_t signed_index);
  */
 SaltCarrier salt_bin_to_active(uint16_t bin);
 
-/* Fills the output with the pilot sequence w from its start, a bit a byte; the bit of an active carrier stands at its index. */
+/*
+ * Fills the output with the pilot sequence w from its start, a bit a byte; the bit of an active carrier stands at its
+ * index.
+ */
 void salt_wk_prbs(uint8_t *out, size_t out_length);
 
 /*
@@ -269,7 +282,8 @@ SaltTps salt_tps_carrier_indices(void);
 SaltTps salt_tps_carrier_bins(void);
 
 /*
- * The active indices of a phase's scattered carriers: 3p, 3p + 12, .. up to 1704. Answers how many: 143 in phase 0, else 142.
+ * The active indices of a phase's scattered carriers: 3p, 3p + 12, .. up to 1704. Answers how many: 143 in phase 0,
+ * else 142.
  * Refusals: 3 OUTPUT SHORT.
  */
 SaltCounted salt_scattered_pilot_indices(size_t phase, uint16_t *out, size_t out_length);
@@ -287,28 +301,30 @@ SaltCounted salt_data_bins(size_t phase, uint16_t *out, size_t out_length);
 SaltCounted salt_static_data_bins(uint16_t *out, size_t out_length);
 
 /*
- * The bins and the boosted values (176 cells) of a phase's reference pilots, in rising active order; TPS carriers aren't among them. Answers 176.
+ * The bins and the boosted values (176 cells) of a phase's reference pilots, in rising active order; TPS carriers
+ * aren't among them. Answers 176.
  * Refusals: 3 OUTPUT SHORT (either).
  */
-SaltCounted salt_reference_pilot_bins(size_t phase, uint16_t *bins, size_t bins_length, float *values, size_t values_length);
+SaltCounted salt_reference_pilot_bins(size_t phase, uint16_t *bins, size_t bins_length, float *values,
+                                      size_t values_length);
 
-/* ---- symbols (4.5) */
+/* ---- Symbols from data cells, and data cells from symbols (4.5) */
 
 /* The mapper: the phase of its next symbol, taken modulo 4. */
 typedef struct SaltScatteredPilotMapper {
     size_t phase;
 } SaltScatteredPilotMapper;
 
-/* The extractor: the phase of its next symbol, taken modulo 4. */
-typedef struct SaltScatteredPilotExtractor {
-    size_t phase;
-} SaltScatteredPilotExtractor;
-
 /* The mapper in the next phase; or a refusal's number and the mapper as it went in. */
 typedef struct SaltMapAnswer {
     uint8_t number;
     SaltScatteredPilotMapper mapper;
 } SaltMapAnswer;
+
+/* The extractor: the phase of its next symbol, taken modulo 4. */
+typedef struct SaltScatteredPilotExtractor {
+    size_t phase;
+} SaltScatteredPilotExtractor;
 
 /* The extractor in the next phase; or a refusal's number and the extractor as it went in. */
 typedef struct SaltExtractAnswer {
@@ -323,11 +339,12 @@ SaltScatteredPilotMapper salt_scattered_pilot_mapper_new(void);
 SaltScatteredPilotMapper salt_scattered_pilot_mapper_reset(SaltScatteredPilotMapper mapper);
 
 /*
- * Makes a symbol: 2,048 cells +0.0, then the 1,512 data cells in their bins, then the boosted value on every reserved carrier, TPS carriers among them.
+ * Makes a symbol: 2,048 cells +0.0, then the 1,512 data cells in their bins, then the boosted value on every reserved
+ * carrier, TPS carriers among them.
  * Refusals: 1 LENGTH (fewer than 3,024 floats of cells), 3 OUTPUT SHORT (room for fewer than 4,096 floats).
  */
-SaltMapAnswer salt_scattered_pilot_mapper_map_symbol(SaltScatteredPilotMapper mapper, const float *cells, size_t cells_length, float *symbol,
-                                                     size_t symbol_length);
+SaltMapAnswer salt_scattered_pilot_mapper_map_symbol(SaltScatteredPilotMapper mapper, const float *cells,
+                                                     size_t cells_length, float *symbol, size_t symbol_length);
 
 /* An extractor in phase 0. */
 SaltScatteredPilotExtractor salt_scattered_pilot_extractor_new(void);
@@ -342,24 +359,28 @@ size_t salt_scattered_pilot_extractor_phase(SaltScatteredPilotExtractor extracto
  * The bins of the 1,512 data carriers of the extractor's next symbol, as salt_data_bins gives them. Answers 1,512.
  * Refusals: 3 OUTPUT SHORT.
  */
-SaltCounted salt_scattered_pilot_extractor_data_bins(SaltScatteredPilotExtractor extractor, uint16_t *out, size_t out_length);
+SaltCounted salt_scattered_pilot_extractor_data_bins(SaltScatteredPilotExtractor extractor, uint16_t *out,
+                                                     size_t out_length);
 
 /*
- * The bins and values of the 176 reference pilots of the extractor's next symbol, as salt_reference_pilot_bins gives them. Answers 176.
+ * The bins and values of the 176 reference pilots of the extractor's next symbol, as salt_reference_pilot_bins gives
+ * them. Answers 176.
  * Refusals: 3 OUTPUT SHORT (either).
  */
-SaltCounted salt_scattered_pilot_extractor_current_pilot_bins(SaltScatteredPilotExtractor extractor, uint16_t *bins, size_t bins_length, float *values,
-                                                              size_t values_length);
+SaltCounted salt_scattered_pilot_extractor_current_pilot_bins(SaltScatteredPilotExtractor extractor, uint16_t *bins,
+                                                              size_t bins_length, float *values, size_t values_length);
 
 /*
  * Reads the 1,512 data cells of a symbol, in rising active order.
  * Refusals: 1 LENGTH (fewer than 4,096 floats of symbol), 3 OUTPUT SHORT (room for fewer than 3,024 floats).
  */
-SaltExtractAnswer salt_scattered_pilot_extractor_extract_symbol(SaltScatteredPilotExtractor extractor, const float *symbol, size_t symbol_length, float *out,
+SaltExtractAnswer salt_scattered_pilot_extractor_extract_symbol(SaltScatteredPilotExtractor extractor,
+                                                                const float *symbol, size_t symbol_length, float *out,
                                                                 size_t out_length);
 
 /*
- * Makes a symbol of the static grid: 1,660 data cells, and boosted pilots on the 45 continual carriers. Answers 2,048, the cells written.
+ * Makes a symbol of the static grid: 1,660 data cells, and boosted pilots on the 45 continual carriers. Answers 2,048,
+ * the cells written.
  * Refusals: 1 LENGTH (fewer than 3,320 floats of cells), 3 OUTPUT SHORT (room for fewer than 4,096 floats).
  */
 SaltCounted salt_grid_map(const float *cells, size_t cells_length, float *symbol, size_t symbol_length);
@@ -370,7 +391,7 @@ SaltCounted salt_grid_map(const float *cells, size_t cells_length, float *symbol
  */
 SaltCounted salt_grid_extract(const float *symbol, size_t symbol_length, float *out, size_t out_length);
 
-/* ---- the code of the TPS words (4.6.2.11) */
+/* ---- The code of the TPS words (4.6.2.11) */
 
 /*
  * The codeword of 53 information bits: these, then 14 bits of parity. Answers 67.
@@ -384,7 +405,7 @@ SaltCounted salt_tps_bch_encode(const uint8_t *info, size_t info_length, uint8_t
  */
 SaltCounted salt_tps_bch_decode(const uint8_t *code, size_t code_length, uint8_t *out, size_t out_length);
 
-/* ---- the TPS word (4.6.2) */
+/* ---- The TPS word (4.6.2) */
 
 /* The parameters that a frame signals; constellation, rate and guard interval by their codes. */
 typedef struct SaltTpsWord {
@@ -408,16 +429,17 @@ typedef struct SaltUnpacked {
 SaltCounted salt_tps_word_pack(SaltTpsWord word, uint8_t *out, size_t out_length);
 
 /*
- * The word that 68 received bits s0 to s67 say, with up to two wrong bits mended; s0 is ignored. The frame number is 0 to 3.
+ * The word that 68 received bits s0 to s67 say, with up to two wrong bits mended; s0 is ignored. The frame number is 0
+ * to 3.
  * Refusals: 1 LENGTH (not 68), 2 NOT A BIT, 4 NO WORD, 5 RESERVED.
  */
 SaltUnpacked salt_tps_word_unpack(const uint8_t *bits, size_t bits_length);
 
-/* ---- the TPS frame, sent and received (4.6.3) */
+/* ---- The TPS frame, sent and received (4.6.3) */
 
 /* The sender: each carrier's sign, and whether the frame's first symbol is sent. */
 typedef struct SaltTpsEncoder {
-    float signs[SALT_TPS_CARRIERS];
+    float signs[17];
     bool started;
 } SaltTpsEncoder;
 
@@ -428,11 +450,12 @@ typedef struct SaltSent {
 } SaltSent;
 
 /*
- * The receiver: the previous symbol's cells, the bits, and how many symbols stand. A count above 68 is read as 68, and a held bit above 1 as 1.
+ * The receiver: the previous symbol's cells, the bits, and how many symbols stand. A count above 68 is read as 68, and
+ * a held bit above 1 as 1.
  */
 typedef struct SaltTpsDecoder {
-    SaltCell prev[SALT_TPS_CARRIERS];
-    uint8_t bits[SALT_TPS_WORD_BITS];
+    SaltCell prev[17];
+    uint8_t bits[68];
     size_t count;
 } SaltTpsDecoder;
 
@@ -456,8 +479,8 @@ SaltTpsEncoder salt_tps_encoder_new(void);
 SaltTpsEncoder salt_tps_encoder_reset(SaltTpsEncoder encoder);
 
 /*
- * The 17 TPS cells of the next symbol, in rising active order: at symbol 0 the signs of w, whatever the bit; later a 1 turns all signs.
- * Answers 17, the cells written. Sending has no last symbol.
+ * The 17 TPS cells of the next symbol, in rising active order: at symbol 0 the signs of w, whatever the bit; later a 1
+ * turns all signs. Answers 17, the cells written. Sending has no last symbol.
  * Refusals: 2 NOT A BIT, 3 OUTPUT SHORT (room for fewer than 34 floats).
  */
 SaltSent salt_tps_encoder_next_symbol(SaltTpsEncoder encoder, uint8_t bit, float *out, size_t out_length);
@@ -469,18 +492,20 @@ SaltTpsDecoder salt_tps_decoder_new(void);
 SaltTpsDecoder salt_tps_decoder_reset(SaltTpsDecoder decoder);
 
 /*
- * Reads the bit of a symbol's 17 TPS cells, in rising active order: at symbol 0 it is 0; later 1 where the sum of the products with the previous
- * symbol's cells is below zero.
+ * Reads the bit of a symbol's 17 TPS cells, in rising active order: at symbol 0 it is 0; later 1 where the sum of the
+ * products with the previous symbol's cells is below zero.
  * Refusals: 1 LENGTH (fewer than 34 floats), 6 FULL.
  */
 SaltTpsFed salt_tps_decoder_feed_symbol(SaltTpsDecoder decoder, const float *cells, size_t cells_length);
 
 /*
- * The same on a receiver that is lent in parts, which are as it leaves them: 34 floats of previous cells, 68 bits and one count; of a SaltTpsDecoder d
- * they are &d.prev[0].re, d.bits and &d.count. Nothing is moved, so it is quicker than by value. Refused, it changes nothing.
+ * The same on a receiver that is lent in parts, which are as it leaves them: 34 floats of previous cells, 68 bits and
+ * one count; of a SaltTpsDecoder d they are &d.prev[0].re, d.bits and &d.count. Nothing is moved, so it is quicker
+ * than by value. Refused, it changes nothing.
  * Refusals: 1 LENGTH (fewer than 34 floats of cells), 6 FULL.
  */
-SaltTpsBit salt_tps_decoder_feed_in_place(float *prev, uint8_t *bits, size_t *count, const float *cells, size_t cells_length);
+SaltTpsBit salt_tps_decoder_feed_in_place(float *prev, uint8_t *bits, size_t *count, const float *cells,
+                                          size_t cells_length);
 
 /* 1 where 68 symbols stand, else 0. */
 uint8_t salt_tps_decoder_is_complete(SaltTpsDecoder decoder);
@@ -497,20 +522,21 @@ SaltCounted salt_tps_decoder_bits(SaltTpsDecoder decoder, uint8_t *out, size_t o
  */
 SaltUnpacked salt_tps_decoder_word(SaltTpsDecoder decoder);
 
-/* ---- the receive session */
+/* ---- The receive session */
 
 /*
- * The extractor and the TPS decoder joined, with a journal that steps back. With n symbols standing the phase is n mod 4, and place n of the journal,
- * 34 floats from 34 n on, is the next symbol's. The caller lends one journal for each session, always the same, and writes nothing to it in between.
+ * The extractor and the TPS decoder joined, with a journal that steps back. With n symbols standing the phase is n mod
+ * 4, and place n of the journal, 34 floats from 34 n on, is the next symbol's. The caller lends one journal for each
+ * session, always the same, and writes nothing to it in between.
  */
 
 /*
- * The session: the previous symbol's TPS cells, the bits, and how many symbols stand. A count above 68 is read as 68, a held bit above 1 as 1, and a bit
- * that doesn't stand as 0.
+ * The session: the previous symbol's TPS cells, the bits, and how many symbols stand. A count above 68 is read as 68,
+ * a held bit above 1 as 1, and a bit that doesn't stand as 0.
  */
 typedef struct SaltSession {
-    SaltCell prev[SALT_TPS_CARRIERS];
-    uint8_t bits[SALT_TPS_WORD_BITS];
+    SaltCell prev[17];
+    uint8_t bits[68];
     size_t count;
 } SaltSession;
 
@@ -534,11 +560,13 @@ SaltSession salt_session_new(void);
 SaltSession salt_session_reset(SaltSession session);
 
 /*
- * Takes one symbol: its 1,512 data cells to the output, its 17 TPS cells to their place of the journal, both in rising active order, and its TPS bit.
- * Refusals: 1 LENGTH (fewer than 4,096 floats of symbol), 3 OUTPUT SHORT (room for fewer than 3,024 floats, or a journal under 2,312), 6 FULL.
+ * Takes one symbol: its 1,512 data cells to the output, its 17 TPS cells to their place of the journal, both in rising
+ * active order, and its TPS bit.
+ * Refusals: 1 LENGTH (fewer than 4,096 floats of symbol), 3 OUTPUT SHORT (room for fewer than 3,024 floats, or a
+ * journal under 2,312), 6 FULL.
  */
-SaltSessionFed salt_session_feed(SaltSession session, const float *symbol, size_t symbol_length, float *out, size_t out_length, float *journal,
-                                 size_t journal_length);
+SaltSessionFed salt_session_feed(SaltSession session, const float *symbol, size_t symbol_length, float *out,
+                                 size_t out_length, float *journal, size_t journal_length);
 
 /*
  * Takes the latest standing symbol back; the journal is only read.
@@ -555,27 +583,22 @@ size_t salt_session_phase(SaltSession session);
  */
 SaltUnpacked salt_session_word(SaltSession session);
 
-/*
- * The session after a script of calls on a new one, each with the same journal, data cells dropped: the byte 255 resets, 254 steps back, and a lower byte k feeds
- * symbol k of the symbols in a row, 4,096 floats each. A call that is refused changes nothing, and the script goes on.
- */
-SaltSession salt_session_run(const uint8_t *script, size_t script_length, const float *symbols, size_t symbols_length, float *journal,
-                             size_t journal_length);
-
-/* ---- the report */
+/* ---- The report on received words */
 
 /*
- * A report on received words. Its input is lines, each a word in 17 hexadecimal digits of lower case, the first digit's high bit s0; its output is text: a
- * heading, a line for each line of the input, numbered from 1 on, and a closing line with the counts of lines and of refused lines. A line ends at a
- * newline or the end of the input; an empty line counts, and no line follows a final newline. In whatever parts the input is fed, the report is the same.
+ * Its input is lines, each a word in 17 hexadecimal digits of lower case, the first digit's high bit s0; its output is
+ * text: a heading, a line for each line of the input, numbered from 1 on, and a closing line with the counts of lines
+ * and of refused lines. A line ends at a newline or the end of the input; an empty line counts, and no line follows a
+ * final newline. In whatever parts the input is fed, the report is the same.
  */
 
 /*
- * What is held of the input so far: the open line's first 17 characters, how many it has, 18 where they are more, how many lines ended, and how many of
- * those were refused; behind 2^64 - 1 a count starts again. Of a reader that is made by hand a count above 17 is read as 18.
+ * What is held of the input so far: the open line's first 17 characters, how many it has, 18 where they are more, how
+ * many lines ended, and how many of those were refused; behind 2^64 - 1 a count starts again. Of a reader that is made
+ * by hand a count above 17 is read as 18.
  */
 typedef struct SaltReader {
-    uint8_t held[SALT_LINE_DIGITS];
+    uint8_t held[17];
     size_t count;
     uint64_t lines;
     uint64_t refused;
@@ -600,8 +623,10 @@ SaltUnpacked salt_read_line(const uint8_t *line, size_t line_length);
 SaltCounted salt_put_heading(uint8_t *out, size_t out_length);
 
 /*
- * Writes the report's line for a line's number and its answer: a word where the answer's number is 0, else that refusal. Answers the bytes written.
- * Refusals: 3 OUTPUT SHORT (room for fewer than 60), 5 RESERVED (a word whose constellation is above 2, rate above 4 or guard above 3).
+ * Writes the report's line for a line's number and its answer: a word where the answer's number is 0, else that
+ * refusal. Answers the bytes written.
+ * Refusals: 3 OUTPUT SHORT (room for fewer than 60), 5 RESERVED (a word whose constellation is above 2, rate above 4
+ * or guard above 3).
  */
 SaltCounted salt_put_line(uint64_t number, SaltUnpacked answer, uint8_t *out, size_t out_length);
 
@@ -609,16 +634,32 @@ SaltCounted salt_put_line(uint64_t number, SaltUnpacked answer, uint8_t *out, si
 SaltReader salt_reader_new(void);
 
 /*
- * Takes a part of the input, of any size, and writes the report's lines for the lines that end in it. Answers the bytes written.
+ * Takes a part of the input, of any size, and writes the report's lines for the lines that end in it. Answers the
+ * bytes written.
  * Refusals: 3 OUTPUT SHORT (room for fewer than 60 a byte of the part).
  */
-SaltReaderFed salt_reader_feed(SaltReader reader, const uint8_t *part, size_t part_length, uint8_t *out, size_t out_length);
+SaltReaderFed salt_reader_feed(SaltReader reader, const uint8_t *part, size_t part_length, uint8_t *out,
+                               size_t out_length);
 
 /*
- * Ends the input: writes the report's line for a line that is open there, and the closing line. Answers the bytes written.
+ * Ends the input: writes the report's line for a line that is open there, and the closing line. Answers the bytes
+ * written.
  * Refusals: 3 OUTPUT SHORT (room for fewer than 120).
  */
 SaltCounted salt_reader_close(SaltReader reader, uint8_t *out, size_t out_length);
+
+/* ---- The layout */
+
+/*
+ * `include/generate` makes the number of the layout, and this text, from the structs and from the parameters and
+ * results of all functions. The archive has a function that carries the number in its name, so a program that calls
+ * SALT_LAYOUT links only with an archive of this layout.
+ */
+
+/* The number of the layout. */
+uint32_t salt_layout_0d3eb915(void);
+
+#define SALT_LAYOUT salt_layout_0d3eb915
 
 #ifdef __cplusplus
 }

@@ -1,8 +1,9 @@
-# What run, store, bench and wrong share; each of them sources this file after `set -euo pipefail`.
+# What run, store, bench and wrong share; each of them sources this file.
 
-root=$(cd "$(dirname "${BASH_SOURCE[0]}")/.." && pwd -P)
+source "$(dirname "${BASH_SOURCE[0]}")/../tests/common.sh"
 build=${ORION_SDR_BUILD:-$root/../shared/oracle/build}
 out=$root/target/oracle
+mkdir -p "$out"
 
 # Says that orion-sdr is not there and what was therefore not done; answers whether it is there.
 orion_at_hand() {
@@ -11,62 +12,25 @@ orion_at_hand() {
     return 1
 }
 
-# Answers whether a Debian package is installed.
-installed() {
-    dpkg-query -W -f '${Status}' "$1" 2>/dev/null | grep -q 'install ok installed'
-}
-
-# Ends with a message and a log's last lines.
-give_up() {
-    echo "oracle: $1" >&2
-    tail -n 40 "$2" >&2
-    exit 2
-}
-
-# Installs the Debian packages that are missing.
-need_packages() {
-    local missing=() log=$out/packages.log
-    mkdir -p "$out"
-    command -v rustc >/dev/null || missing+=(rustc)
-    command -v cc >/dev/null || missing+=(gcc libc6-dev)
-    installed librust-num-complex-dev || missing+=(librust-num-complex-dev)
-    [ ${#missing[@]} -eq 0 ] && return 0
-    echo "oracle: installing ${missing[*]}"
-    { apt-get update -qq && DEBIAN_FRONTEND=noninteractive apt-get install -y -qq --no-install-recommends "${missing[@]}"; } \
-        >"$log" 2>&1 </dev/null || give_up "apt-get could not install ${missing[*]}" "$log"
-}
-
-# Compiles orion-sdr's own files into target/oracle/orion, from nothing where rustc is another than last time.
+# Compiles orion-sdr's own files into target/oracle/orion-MACHINE, from nothing where rustc is another than last time.
 build_orion() {
-    local version log=$out/orion.log
+    local version orion=$out/orion-$compiled_for log=$out/orion.log
+    need rustc cc:gcc,libc6-dev :librust-num-complex-dev
     version=$(rustc --version)
-    if [ "$(cat "$out/orion/rustc-version" 2>/dev/null)" != "$version" ]; then
-        rm -rf "$out/orion"
-        mkdir -p "$out/orion"
+    if [ "$(cat "$orion/rustc-version" 2>/dev/null)" != "$version" ]; then
+        rm -rf "$orion"
+        mkdir -p "$orion"
     fi
-    "$build" "$out/orion" >"$log" 2>&1 || give_up "orion-sdr did not compile (it asks for Rust's edition 2024; this is $version)" "$log"
-    echo "$version" >"$out/orion/rustc-version"
-}
-
-# Proves the port and writes its static library, where there is none or a file of crates/ is newer.
-build_saltkernel() {
-    local log=$out/staticlib.log archive=$root/target/staticlib/libsaltkernel.a
-    [ -f "$archive" ] && [ -z "$(find "$root/crates.txt" "$root/crates" -type f ! -name wrong-programs.txt -newer "$archive" -print -quit)" ] && return 0
-    (cd "$root" && rt staticlib saltkernel) >"$log" 2>&1 </dev/null || give_up "rt staticlib saltkernel did not succeed" "$log"
-}
-
-# Proves the report program and builds it where it isn't there or is stale.
-build_tpsreport() {
-    local log=$out/tpsreport.log
-    "$root/bin/tpsreport" >"$log" 2>&1 </dev/null || give_up "bin/tpsreport did not succeed" "$log"
+    "$build" "$orion" >"$log" 2>&1 || give_up "orion-sdr did not compile (it asks for Rust's edition 2024; this is $version)" "$log"
+    echo "$version" >"$orion/rustc-version"
 }
 
 # Compiles oracle/src/$2.rs to target/oracle/$1, with the further arguments for rustc.
 compile_as() {
-    local made=$1 name=$2 log=$out/$1.log
+    local made=$1 name=$2 orion=$out/orion-$compiled_for log=$out/$1.log
     shift 2
-    rustc --edition 2021 -C opt-level=3 --crate-name "oracle_$name" -L dependency="$out/orion" \
-        --extern orion_sdr="$out/orion/liborion_sdr.rlib" --extern num_complex="$out/orion/libnum_complex.rlib" \
+    rustc --edition 2021 -C opt-level=3 --crate-name "oracle_$name" -L dependency="$orion" \
+        --extern orion_sdr="$orion/liborion_sdr.rlib" --extern num_complex="$orion/libnum_complex.rlib" \
         "$@" -o "$out/$made" "$root/oracle/src/$name.rs" >"$log" 2>&1 || give_up "oracle/src/$name.rs did not compile" "$log"
 }
 
@@ -76,4 +40,4 @@ compile() {
 }
 
 # The arguments for rustc that link the port's static library.
-with_saltkernel=(-L native="$root/target/staticlib" -l static=saltkernel)
+with_saltkernel=(-L native="$(dirname "$archive")" -l static=saltkernel)

@@ -1,19 +1,22 @@
-"""second.py OUT: compiles the library's own Rattle source with rustc, as a dynamic library with the same C interface, OUT/libsaltkernel.so.
+"""second.py OUT: compiles the library's own Rattle source with rustc, as a dynamic library with the same C interface,
+OUT/libsaltkernel.so.
 
-What Rattle has beyond Rust is taken away: contracts and ghost lines. Structs and enums are given Copy, the kit's calls go to kit.rs, and each function for C
-becomes a plain one and a covering one that takes a slice as a pointer and a length. Overflow is checked, and a panic ends the process."""
+What Rattle has beyond Rust is taken away: contracts and ghost lines. Structs and enums are given Copy, the kit's
+calls go to kit.rs, and each function for C becomes a plain one and a covering one that takes a slice as a pointer and
+a length. Overflow is checked, and a panic ends the process."""
 import os
 import pathlib
 import re
 import subprocess
 import sys
 
-root = pathlib.Path(__file__).resolve().parent.parent
-sys.path.insert(0, str(root / "tests"))
+sys.path.insert(0, str(pathlib.Path(__file__).resolve().parent.parent / "tests"))
+import rattle  # noqa: E402
 from programs import applied  # noqa: E402
+from rattle import root  # noqa: E402
 
 TOP = "saltkernel"
-CONTRACT = re.compile(r"^ *(ghost use|requires|ensures) .*\n", flags=re.M)
+GHOST = re.compile(r"^ghost use .*\n", flags=re.M)
 TYPE = re.compile(r"^(pub(\(crate\))? )?(struct|enum) ", flags=re.M)
 KIT = re.compile(r"\b(std::num|io)::(?=\w+\()")
 FOR_C = re.compile(r'#\[no_mangle\]\npub extern "C" (fn (\w+)\(([^)]*)\)( -> \w+)?)')
@@ -33,15 +36,11 @@ class Refused(Exception):
 
 
 def crates():
-    """The library's crates in the order of crates.txt, each with those that it names."""
-    lines = [line.split(":") for line in (root / "crates.txt").read_text().splitlines() if ":" in line]
-    known = {name: below.split() for name, below in lines}
-    wanted, todo = set(), [TOP]
-    while todo:
-        name = todo.pop()
-        wanted.add(name)
-        todo += [below for below in known[name] if below in known]
-    return {name: [b for b in known[name] if b in known] for name in known if name in wanted}
+    """The library's crates in their order, each with those that it stands on."""
+    wanted, known = {TOP}, rattle.crates()
+    for name in reversed(known):
+        wanted |= set(known[name]) if name in wanted else set()
+    return {name: below for name, below in known.items() if name in wanted}
 
 
 def above(crate):
@@ -75,7 +74,9 @@ def covering(found):
 
 def as_rust(text):
     """A Rattle file as Rust."""
-    text = TYPE.sub(r"#[derive(Clone, Copy)]\n\g<0>", CONTRACT.sub("", text))
+    for function in reversed(list(rattle.read(text))):
+        text = text[: function.begin] + text[function.begin :].replace(function.contract, "", 1)
+    text = TYPE.sub(r"#[derive(Clone, Copy)]\n\g<0>", GHOST.sub("", text))
     return FOR_C.sub(covering, KIT.sub("kit::", text))
 
 
@@ -103,7 +104,8 @@ def rustc(place, name, file, kind, below):
 
 
 def build(place, base=None, changed=TOP, edits=()):
-    """Compiles the library into a folder: all of it, or a crate changed by edits and those above it, with the others from where they were built before."""
+    """Compiles the library into a folder: all of it, or a crate changed by edits and those above it, with the others
+    from where they were built before."""
     place.mkdir(parents=True, exist_ok=True)
     anew = above(changed) if base else list(crates())
     if base:

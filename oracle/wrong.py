@@ -1,5 +1,5 @@
-"""wrong.py SECOND [--must-fail] [--reasons] [NAME..]: runs the comparison with orion-sdr on the library that second.py compiled into SECOND, and then on each wrong
-program of the crates named, or of all. As oracle/wrong calls it."""
+"""wrong.py SECOND [--reasons] [NAME..]: runs the comparison with orion-sdr on the library that second.py compiled
+into SECOND, and then on each wrong program of the crates named, or of all. As oracle/wrong calls it."""
 import argparse
 import concurrent.futures
 import os
@@ -10,10 +10,8 @@ import sys
 import tempfile
 import time
 
-root = pathlib.Path(__file__).resolve().parent.parent
-sys.path.insert(0, str(root / "tests"))
-import second  # noqa: E402
-from programs import edits, programs  # noqa: E402
+import second  # it is what finds tests/
+from programs import programs
 
 WORKERS = int(os.environ.get("WORKERS", "2"))
 # A run that takes so many times as long as all comparisons of the source as it is doesn't end.
@@ -21,7 +19,8 @@ LONGER = 10
 
 
 def compared(base, place, names=(), limit=None):
-    """Runs the comparisons of these names, or all, with the library in a folder: what they find, or None where all are equal, and what they print."""
+    """Runs the comparisons of these names, or all, with the library in a folder: what they find, or None where all
+    are equal, and what they print."""
     words = [base / "main", "--first"] + [word for name in names for word in ("--only", name)]
     try:
         done = subprocess.run(words, text=True, capture_output=True, timeout=limit, env=os.environ | {"LD_LIBRARY_PATH": str(place)})
@@ -44,7 +43,8 @@ def plain(name):
 
 
 def stages(function, names):
-    """Which comparisons are run for a function, one after the other: its own, those of its type and of functions of its name, and all."""
+    """Which comparisons are run for a function, one after the other: its own, those of its type and of functions of
+    its name, and all."""
     last = function.split("::")[-1].removeprefix("salt_")
     whole = plain(last if "salt_" in function else function)
     heads = {name: name.split(",")[0] for name in names}
@@ -54,9 +54,7 @@ def stages(function, names):
 
 
 def tried(base, names, limit, crate, program):
-    """What finds a wrong program: None where nothing does, or that it was not tried or doesn't compile."""
-    if not any(path.startswith("src/") for path, _, _, _ in program.edits):
-        return "NOT TRIED: it changes a rule and no program"
+    """What finds a wrong program: None where nothing does, or that it doesn't compile."""
     with tempfile.TemporaryDirectory() as folder:
         place = pathlib.Path(folder)
         try:
@@ -75,7 +73,7 @@ def told(crate, results, every):
     found = missed = panics = 0
     for program, how in results:
         bad = how is None or how.startswith("BAD EDIT")
-        found += not bad and not how.startswith("NOT TRIED")
+        found += not bad
         missed += bad
         panics += bool(how) and how.startswith("PANICS")
         if bad:
@@ -90,7 +88,6 @@ def arguments():
     """What the command line asks for."""
     parser = argparse.ArgumentParser()
     parser.add_argument("second", type=pathlib.Path)
-    parser.add_argument("--must-fail", action="store_true")
     parser.add_argument("--reasons", action="store_true")
     parser.add_argument("crates", nargs="*", metavar="NAME", choices=[[], *second.crates()])
     return parser.parse_args()
@@ -110,7 +107,7 @@ def main():
     passed, failed = 1, 0
     with concurrent.futures.ThreadPoolExecutor(WORKERS) as pool:
         for crate in words.crates or second.crates():
-            wanted = edits(root, crate) + ([] if words.must_fail else programs(root, crate))
+            wanted = programs(crate)
             results = zip(wanted, pool.map(lambda program: tried(base, names, limit, crate, program), wanted))
             found, missed = told(crate, results, words.reasons)
             passed, failed = passed + found, failed + missed

@@ -1,13 +1,12 @@
 //! Finds the library's archive, libsaltkernel.a, or has it written.
 //!
-//! An archive in the folder that SALTKERNEL_LIB_DIR names is taken as it is. Else that of the repository is taken, target/staticlib/libsaltkernel.a;
-//! where it is missing, or older than a file of crates/, `rt staticlib saltkernel` proves the library and writes it.
+//! An archive in the folder that SALTKERNEL_LIB_DIR names is taken as it is. Else that of the repository is taken,
+//! target/staticlib/libsaltkernel.a; where it is missing or stale, tests/archive has the library proved and writes
+//! it.
 
 use std::env;
-use std::fs;
 use std::path::{Path, PathBuf};
 use std::process::{exit, Command};
-use std::time::SystemTime;
 
 const ARCHIVE: &str = "libsaltkernel.a";
 
@@ -17,35 +16,17 @@ fn give_up(message: &str) -> ! {
     exit(1)
 }
 
-/// When a file was last written, or the newest of a folder and all that it holds.
-fn written(path: &Path) -> Option<SystemTime> {
-    let own = fs::metadata(path).ok()?.modified().ok()?;
-    let inside = fs::read_dir(path).into_iter().flatten().flatten();
-    inside.filter_map(|entry| written(&entry.path())).chain([own]).max()
-}
-
-/// Whether the archive is there and no file of crates/ is newer.
-fn is_fresh(root: &Path, archive: &Path) -> bool {
-    let sources = [root.join("crates.txt"), root.join("crates")];
-    match written(archive) {
-        Some(made) => sources.iter().filter_map(|path| written(path)).all(|source| source <= made),
-        None => false,
-    }
-}
-
-/// Proves the library and writes the archive.
+/// Has the repository's archive written where it is missing or stale.
 fn write_archive(root: &Path) {
-    let done = match Command::new("rt").args(["staticlib", "saltkernel"]).current_dir(root).output() {
-        Ok(done) => done,
-        Err(error) => give_up(&format!(
-            "{ARCHIVE} is missing or older than its source, and `rt`, which would write it, can't be run ({error}). \
-             Install the Rattle toolchain, or name the folder of an archive in SALTKERNEL_LIB_DIR."
-        )),
+    let why = match Command::new(root.join("tests/archive")).output() {
+        Ok(done) if done.status.success() => return,
+        Ok(done) => String::from_utf8_lossy(&done.stderr).into_owned(),
+        Err(error) => format!("tests/archive can't be run: {error}"),
     };
-    if !done.status.success() {
-        eprintln!("{}{}", String::from_utf8_lossy(&done.stdout), String::from_utf8_lossy(&done.stderr));
-        give_up("`rt staticlib saltkernel` did not succeed.");
-    }
+    give_up(&format!(
+        "{ARCHIVE} is missing or older than its source, and was not written. Install the Rattle toolchain, or name the folder of an archive in \
+         SALTKERNEL_LIB_DIR.\n{why}"
+    ));
 }
 
 /// The folder of the archive.
@@ -58,13 +39,10 @@ fn folder() -> PathBuf {
         return folder;
     }
     let root = Path::new(&env::var_os("CARGO_MANIFEST_DIR").expect("cargo names the crate's folder")).join("..");
-    let folder = root.join("target/staticlib");
-    if !is_fresh(&root, &folder.join(ARCHIVE)) {
-        write_archive(&root);
-    }
+    write_archive(&root);
     println!("cargo:rerun-if-changed={}", root.join("crates").display());
     println!("cargo:rerun-if-changed={}", root.join("crates.txt").display());
-    folder
+    root.join("target/staticlib")
 }
 
 fn main() {

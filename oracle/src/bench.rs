@@ -261,9 +261,9 @@ fn stuff(have: usize, target: usize) -> Row {
 /// Whitening so many bytes in place, the register going on from one time to the next.
 fn feed_in_place(bytes: usize) -> Row {
     let (mut theirs, mut ours) = (some_bytes(bytes), some_bytes(bytes));
-    let (mut their_state, mut our_state) = (DvbTEnergyDispersal::new(), call::energy_dispersal_new());
+    let (mut their_state, mut our_state) = (DvbTEnergyDispersal::new(), call::dvb_t_energy_dispersal_new());
     let orion = move || their_state.feed_in_place(black_box(&mut theirs));
-    Row::new("feed_in_place", bytes, None, orion, move || our_state = call::energy_dispersal_feed_in_place(our_state, black_box(&mut ours)))
+    Row::new("feed_in_place", bytes, None, orion, move || our_state = call::dvb_t_energy_dispersal_feed_in_place(our_state, black_box(&mut ours)))
 }
 
 /// Mapping random groups of so many bits.

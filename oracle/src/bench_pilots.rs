@@ -44,17 +44,17 @@ fn some_cells(count: usize) -> (Vec<Complex32>, Vec<f32>) {
 /// Mapping, phase after phase.
 fn map_symbol() -> Row {
     let ((their_data, our_data), (mut their_symbol, mut our_symbol)) = (some_cells(DATA), some_cells(SYMBOL));
-    let (mut theirs, mut ours) = (ScatteredPilotMapper::new(GUARD), call::mapper_new());
+    let (mut theirs, mut ours) = (ScatteredPilotMapper::new(GUARD), call::scattered_pilot_mapper_new());
     let orion = move || theirs.map_symbol(black_box(&their_data), black_box(&mut their_symbol));
-    row("map_symbol", SYMBOL, orion, move || ours = call::mapper_map_symbol(ours, black_box(&our_data), black_box(&mut our_symbol)).mapper)
+    row("map_symbol", SYMBOL, orion, move || ours = call::scattered_pilot_mapper_map_symbol(ours, black_box(&our_data), black_box(&mut our_symbol)).mapper)
 }
 
 /// Extraction, phase after phase.
 fn extract_symbol() -> Row {
     let ((their_symbol, our_symbol), (mut their_data, mut our_data)) = (some_cells(SYMBOL), some_cells(DATA));
-    let (mut theirs, mut ours) = (ScatteredPilotExtractor::new(GUARD), call::extractor_new());
+    let (mut theirs, mut ours) = (ScatteredPilotExtractor::new(GUARD), call::scattered_pilot_extractor_new());
     let orion = move || theirs.extract_symbol(black_box(&their_symbol), black_box(&mut their_data));
-    row("extract_symbol", DATA, orion, move || ours = call::extractor_extract_symbol(ours, black_box(&our_symbol), black_box(&mut our_data)).extractor)
+    row("extract_symbol", DATA, orion, move || ours = call::scattered_pilot_extractor_extract_symbol(ours, black_box(&our_symbol), black_box(&mut our_data)).extractor)
 }
 
 /// Mapping of the static grid.

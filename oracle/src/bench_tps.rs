@@ -27,7 +27,7 @@ pub fn rows() -> Vec<Row> {
         unpack("TpsWord::unpack, 2 wrong", 2),
         next_symbol(),
         feed_symbol("TpsDecoder::feed_symbol", Some(0.8), |SaltTpsDecoder { prev, bits, count }, cells| {
-            black_box(call::tps_decoder_feed_in_place(prev, bits, count, cells));
+            black_box(call::tps_decoder_feed_in_place(call::floats_of(prev), bits, count, cells));
         }),
         feed_symbol("TpsDecoder::feed_symbol, by value", None, |decoder, cells| *decoder = call::tps_decoder_feed_symbol(*decoder, cells).decoder),
     ]

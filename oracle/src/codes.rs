@@ -180,7 +180,7 @@ impl Encode {
             see(turned([0; INFORMATION], places));
             see(turned([1; INFORMATION], places));
         }
-        (0..WORDS).for_each(|_| see(information(random)));
+        (0..random.part_of(WORDS)).for_each(|_| see(information(random)));
     }
 }
 
@@ -256,7 +256,7 @@ impl Decode {
         for word in extremes.into_iter().chain(codewords) {
             up_to_two(CODEWORD).for_each(|places| see(turned(word, places)));
         }
-        for _ in 0..WORDS {
+        for _ in 0..random.part_of(WORDS) {
             let wrong = random.between(3, 6);
             see(turned(codeword(random), some_places(random, wrong)));
         }

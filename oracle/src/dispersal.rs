@@ -34,18 +34,18 @@ impl Step {
     fn ours(&self, whitener: SaltDvbTEnergyDispersal, answer: Answer) -> (SaltDvbTEnergyDispersal, Answer) {
         match self {
             Step::Hand => (SaltDvbTEnergyDispersal { reg: whitener.reg | 1 << REGISTER }, answer),
-            Step::Reset => (call::energy_dispersal_reset(whitener), answer),
-            Step::AdvanceByte(times) => ((0..*times).fold(whitener, |state, _| call::energy_dispersal_advance_byte(state)), answer),
+            Step::Reset => (call::dvb_t_energy_dispersal_reset(whitener), answer),
+            Step::AdvanceByte(times) => ((0..*times).fold(whitener, |state, _| call::dvb_t_energy_dispersal_advance_byte(state)), answer),
             Step::FeedInPlace(bytes) => {
                 let mut data = Lent::to_write("data", bytes);
-                let after = call::energy_dispersal_feed_in_place(whitener, data.slice_mut());
+                let after = call::dvb_t_energy_dispersal_feed_in_place(whitener, data.slice_mut());
                 let found = surroundings(&mut [&mut data]);
                 (after, answer.bytes("data", data.slice()).surroundings(&found))
             }
             Step::Feed(bytes, room) => {
                 let mut data = Lent::to_read("data", bytes);
                 let mut out = Lent::to_write("output", &background(room.size(bytes.len())));
-                let fed = call::energy_dispersal_feed(whitener, data.slice(), out.slice_mut());
+                let fed = call::dvb_t_energy_dispersal_feed(whitener, data.slice(), out.slice_mut());
                 let found = surroundings(&mut [&mut data, &mut out]);
                 let answer = answer.number("number", u64::from(fed.answer.number)).number("count", fed.answer.count as u64);
                 (fed.whitener, answer.bytes("output", out.slice()).surroundings(&found))
@@ -134,7 +134,7 @@ impl Subject for Whitener {
     }
 
     fn ours(&self, case: &Vec<Step>) -> Answer {
-        let start = call::energy_dispersal_new();
+        let start = call::dvb_t_energy_dispersal_new();
         let start = (start, above(Answer::default(), start.reg >> REGISTER != 0));
         let called = case.iter().chain([&probe()]).fold(start, |(whitener, answer), step| {
             let (after, answer) = step.ours(whitener, answer);

@@ -142,7 +142,7 @@ fn few_points(random: &mut Random, size: Option<usize>, count: usize, mut compar
 /// Hands over all the points of a group size whose answers are not the same; gives how many points there were.
 fn in_bulk(random: &mut Random, size: Option<usize>, same: impl Fn(Received) -> bool, mut differs: impl FnMut(Received)) -> usize {
     let Some(size) = size else { return 0 };
-    Points::new(size).each(random, POINTS, |re, im| {
+    Points::new(size).each(random, random.part_of(POINTS), |re, im| {
         let received = Received { re, im, size };
         if !same(received) {
             differs(received);

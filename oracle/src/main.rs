@@ -24,7 +24,6 @@ mod same;
 mod sender;
 mod session;
 mod session_calls;
-mod session_run;
 mod session_scripts;
 mod session_sides;
 mod shrink;
@@ -52,7 +51,6 @@ fn main() {
     sender::compare(&mut run);
     receiver::compare(&mut run);
     session::compare(&mut run);
-    session_run::compare(&mut run);
     reports::compare(&mut run);
     reader::compare(&mut run);
     run.finish();
@@ -60,7 +58,7 @@ fn main() {
 
 /// What the command line asks for.
 fn arguments() -> harness::Wanted {
-    let mut wanted = harness::Wanted { seed: SEED, times: 1, only: Vec::new(), first: false };
+    let mut wanted = harness::Wanted { seed: SEED, times: 1, part: 1, only: Vec::new(), first: false };
     let mut words = std::env::args().skip(1);
     while let Some(word) = words.next() {
         if word == "--first" {
@@ -71,6 +69,7 @@ fn arguments() -> harness::Wanted {
         match (word.as_str(), value.parse::<u64>()) {
             ("--seed", Ok(number)) => wanted.seed = number,
             ("--times", Ok(number)) if number > 0 => wanted.times = number as usize,
+            ("--part", Ok(number)) if number > 0 => wanted.part = number as usize,
             ("--only", _) => wanted.only.push(value),
             _ => usage(),
         }
@@ -80,6 +79,6 @@ fn arguments() -> harness::Wanted {
 
 /// Says what the command line may hold, and ends the program.
 fn usage() -> ! {
-    eprintln!("oracle/run [--seed N] [--times K] [--only TEXT].. [--first]: N a whole number, K at least 1");
+    eprintln!("oracle/run [--seed N] [--times K] [--part K] [--only TEXT].. [--first]: N a whole number, K at least 1");
     std::process::exit(2);
 }

@@ -343,7 +343,7 @@ fn lists() -> [List; 4] {
         },
         List {
             name: "ScatteredPilotExtractor::data_bins",
-            ours: |phase, out| call::extractor_data_bins(Extractor { phase }, out),
+            ours: |phase, out| call::scattered_pilot_extractor_data_bins(Extractor { phase }, out),
             theirs: Box::new(move |phase, guard| extractors[guard][phase % 4].data_bins().to_vec()),
         },
     ]
@@ -400,7 +400,7 @@ struct Reference {
 
 /// The two functions that give reference pilots.
 fn references() -> [Reference; 2] {
-    let by_extractor = |phase, bins: &mut [u16], values: &mut [f32]| call::extractor_current_pilot_bins(Extractor { phase }, bins, values);
+    let by_extractor = |phase, bins: &mut [u16], values: &mut [f32]| call::scattered_pilot_extractor_current_pilot_bins(Extractor { phase }, bins, values);
     [
         Reference { name: "reference_pilot_bins", ours: call::reference_pilot_bins, extractors: extractors() },
         Reference { name: "ScatteredPilotExtractor::current_pilot_bins", ours: by_extractor, extractors: extractors() },
@@ -477,7 +477,7 @@ impl Subject for Phase {
     }
 
     fn ours(&self, case: &usize) -> Answer {
-        Answer::default().number("phase", call::extractor_phase(Extractor { phase: *case }) as u64)
+        Answer::default().number("phase", call::scattered_pilot_extractor_phase(Extractor { phase: *case }) as u64)
     }
 
     fn expected(&self, case: &usize) -> Expected {

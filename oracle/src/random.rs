@@ -2,22 +2,29 @@
 
 pub struct Random {
     state: u64,
+    /// One in so many of the cases that are compared in bulk is drawn.
+    part: usize,
 }
 
 impl Random {
     /// A generator that starts from a seed.
     pub fn new(seed: u64) -> Self {
-        Self { state: seed }
+        Self { state: seed, part: 1 }
     }
 
     /// A generator of its own for a name, so that a new function leaves the others' cases as they were.
-    pub fn named(seed: u64, name: &str) -> Self {
-        let mut random = Self::new(seed);
+    pub fn named(seed: u64, part: usize, name: &str) -> Self {
+        let mut random = Self { state: seed, part };
         for byte in name.bytes() {
             random.state ^= u64::from(byte);
             random.state = random.next();
         }
         random
+    }
+
+    /// How many cases are drawn where so many would be.
+    pub fn part_of(&self, cases: usize) -> usize {
+        cases / self.part
     }
 
     /// The next 64 random bits.

@@ -169,7 +169,7 @@ impl Ours {
             }
             Way::InPlace => {
                 let SaltTpsDecoder { prev, bits, count } = &mut self.decoder;
-                call::tps_decoder_feed_in_place(prev, bits, count, floats)
+                call::tps_decoder_feed_in_place(call::floats_of(prev), bits, count, floats)
             }
         }
     }
@@ -191,7 +191,7 @@ impl Ours {
         let SaltTpsDecoder { prev, bits, count } = self.decoder;
         let (mut prev, mut bits, mut count) = (Lent::to_write("prev", &prev), Lent::to_write("bits", &bits), Lent::to_write("count", &[count]));
         let lent = (prev.slice_mut().try_into().unwrap(), bits.slice_mut().try_into().unwrap(), &mut count.slice_mut()[0]);
-        let fed = call::tps_decoder_feed_in_place(lent.0, lent.1, lent.2, cells);
+        let fed = call::tps_decoder_feed_in_place(call::floats_of(lent.0), lent.1, lent.2, cells);
         self.decoder = SaltTpsDecoder { prev: prev.slice().try_into().unwrap(), bits: bits.slice().try_into().unwrap(), count: count.slice()[0] };
         (fed, vec![surroundings(&mut [&mut prev]), surroundings(&mut [&mut bits]), surroundings(&mut [&mut count])])
     }
@@ -309,7 +309,7 @@ impl Subject for Receiver {
     /// Runs of up to a frame; both sides are called in turn, and what is seen of them compared after each call.
     fn in_bulk(&self, random: &mut Random, differs: &mut dyn FnMut(Vec<Step>)) -> usize {
         let mut compared = 0;
-        while compared < self.bulk {
+        while compared < random.part_of(self.bulk) {
             let run = some_run(random, WORD);
             let (mut ours, mut theirs) = (Ours::new(self.way, false), Theirs::new());
             let equal = |step: &Step| ours.call(step) == theirs.call(step);

@@ -2,7 +2,7 @@
 
 use crate::answer::Answer;
 use crate::fields::GUARDS;
-use crate::harness::{Cases, Expected, Run, Subject};
+use crate::harness::{Cases, Expected, Run, Source, Subject};
 use crate::random::Random;
 use crate::session_calls::{Feed, Memory, PLACES, Step};
 use crate::session_scripts as scripts;
@@ -39,6 +39,11 @@ impl Script {
     fn numbered(number: usize, afresh: usize, steps: Vec<Step>) -> Self {
         Self { guard: number / afresh % GUARDS.len(), afresh: number % afresh == 0, steps }
     }
+}
+
+/// Who says what a script's answer is.
+fn who_says(script: &Script) -> Source {
+    if scripts::by_document(&script.steps) { Source::Document } else { Source::Orion }
 }
 
 /// Scripts that try a function of the session; so many more random ones are compared in bulk.
@@ -100,13 +105,18 @@ impl Subject for Session {
     }
 
     fn in_bulk(&self, random: &mut Random, differs: &mut dyn FnMut(Script)) -> usize {
-        for number in 0..self.bulk {
+        let count = random.part_of(self.bulk);
+        for number in 0..count {
             let script = Script::numbered(number, AFRESH, scripts::script(random));
             if !self.equal(&script) {
                 differs(script);
             }
         }
-        self.bulk
+        count
+    }
+
+    fn quickly(&self, case: &Script) -> Option<Source> {
+        self.equal(case).then(|| who_says(case))
     }
 
     fn ours(&self, case: &Script) -> Answer {
@@ -117,7 +127,7 @@ impl Subject for Session {
     fn expected(&self, case: &Script) -> Expected {
         let mut orion = self.orion[case.guard].borrow_mut();
         let answer = self.answer(case, &mut Theirs::new(&mut orion, case.afresh));
-        if scripts::by_document(&case.steps) { Expected::document(answer) } else { Expected::orion(answer) }
+        Expected { source: who_says(case), answer }
     }
 
     /// Fewer calls, the first guard interval, then less in one of the calls.

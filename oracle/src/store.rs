@@ -1,4 +1,4 @@
-//! Writes stored answers of orion-sdr's for the replay program: FUNCTION NUMBER INPUT OUTPUT, one line each (README.md).
+//! Writes stored answers of orion-sdr's for the replay program, one line each (README.md).
 
 #[allow(dead_code)]
 mod fields;
@@ -24,9 +24,9 @@ const SEED: u64 = 1_504;
 /// Bytes of a packet.
 const PACKET: usize = 188;
 /// The bytes that the replay has room for.
-const ROOM: usize = 786_432;
-/// The digits of the bytes of a field that the replay has room for.
-const FIELD: usize = 32_768;
+const ROOM: usize = 1_310_720;
+/// The bytes of a field that the replay has room for.
+const FIELD: usize = 16_384;
 
 fn main() {
     let file = std::env::args().nth(1).expect("store FILE");
@@ -61,30 +61,33 @@ struct Lines {
 }
 
 impl Lines {
-    /// Adds an answer as orion-sdr gave it; None is `!1`.
+    /// Adds an answer as orion-sdr gave it; None is the refusal 1.
     fn answer(&mut self, function: &str, number: usize, input: &[u8], output: Option<&[u8]>) {
-        let output = output.map_or("!1".to_string(), hexadecimal);
-        self.line(format!("{function} {number} {} {output}", hexadecimal(input)));
+        self.line(' ', function, number, u8::from(output.is_none()), input, output.unwrap_or_default());
     }
 
     /// Adds a refusal of document 01's that stands for orion-sdr's None.
     fn refused(&mut self, function: &str, number: usize, input: &[u8], refusal: u8) {
-        self.line(format!("{function} {number} {} !{refusal}", hexadecimal(input)));
+        self.line(' ', function, number, refusal, input, &[]);
     }
 
-    /// Adds an answer with one bit turned, which the replay must call different.
+    /// Adds an answer that is wrong, which the replay must call different.
+    fn wrong(&mut self, function: &str, number: usize, input: &[u8], refusal: u8, output: &[u8]) {
+        self.line('~', function, number, refusal, input, output);
+    }
+
+    /// Adds an answer with one bit turned.
     fn turned(&mut self, function: &str, number: usize, input: &[u8], output: &[u8], bit: usize) {
         let mut wrong = output.to_vec();
         wrong[bit / 8] ^= 0x80 >> (bit % 8);
-        self.line(format!("~{function} {number} {} {}", hexadecimal(input), hexadecimal(&wrong)));
+        self.wrong(function, number, input, 0, &wrong);
     }
 
     /// Adds a line that keeps the sizes which the replay can hold.
-    fn line(&mut self, line: String) {
-        let fields: Vec<&str> = line.split(' ').collect();
-        assert!(fields.len() == 4 && fields[2].len() <= FIELD && fields[3].len() <= FIELD, "a line is too long");
-        self.text.push_str(&line);
-        self.text.push('\n');
+    fn line(&mut self, mark: char, function: &str, number: usize, refusal: u8, input: &[u8], output: &[u8]) {
+        assert!(function.len() < 24 && number < 65_536 && input.len() + 3 <= FIELD && output.len() <= FIELD, "a line is too long");
+        let (input, output) = (hexadecimal(input), hexadecimal(output));
+        self.text.push_str(&format!("{mark}{function:24}{number:04x}{refusal:02x}{input}>{output}\n"));
     }
 
     /// How many lines begin so.
@@ -93,9 +96,9 @@ impl Lines {
     }
 }
 
-/// Bytes as lower-case hexadecimal digits, `-` for none.
+/// Bytes as lower-case hexadecimal digits.
 fn hexadecimal(bytes: &[u8]) -> String {
-    if bytes.is_empty() { "-".to_string() } else { bytes.iter().map(|byte| format!("{byte:02x}")).collect() }
+    bytes.iter().map(|byte| format!("{byte:02x}")).collect()
 }
 
 /// Payloads around whole packets, of zeros, of ones and of sync bytes.
@@ -104,11 +107,11 @@ fn packetize(lines: &mut Lines) {
     let mut payloads: Vec<Vec<u8>> = lengths.iter().map(|length| lines.random.bytes(*length)).collect();
     payloads.extend([vec![0; 5], vec![0xFF; 187], vec![0x47; 188]]);
     for payload in payloads {
-        lines.answer("packetize", 0, &payload, Some(&orion::ts_packetize(&payload)));
+        lines.answer("ts_packetize", 0, &payload, Some(&orion::ts_packetize(&payload)));
     }
     for (length, bit) in [(0, 8 * PACKET - 1), (188, 8 * PACKET)] {
         let payload = lines.random.bytes(length);
-        lines.turned("packetize", 0, &payload, &orion::ts_packetize(&payload), bit);
+        lines.turned("ts_packetize", 0, &payload, &orion::ts_packetize(&payload), bit);
     }
 }
 
@@ -117,27 +120,27 @@ fn depacketize(lines: &mut Lines) {
     for length in [0, 1, 187, 189, 375, 377, 1503, 2000] {
         let packets = lines.random.bytes(length);
         assert!(orion::ts_depacketize(&packets).is_none());
-        lines.answer("depacketize", 0, &packets, None);
+        lines.answer("ts_depacketize", 0, &packets, None);
     }
     let mut inputs: Vec<Vec<u8>> = [1, 2, 3, 4, 7, 8, 10].iter().map(|packets| lines.random.bytes(packets * PACKET)).collect();
     inputs.push(orion::ts_packetize(&lines.random.bytes(300)));
     for packets in inputs {
         let payload = orion::ts_depacketize(&packets).expect("whole packets");
-        lines.answer("depacketize", 0, &packets, Some(&payload));
+        lines.answer("ts_depacketize", 0, &packets, Some(&payload));
     }
     for (count, bit) in [(1, 0), (3, 8 * 3 * 187 - 1)] {
         let packets = lines.random.bytes(count * PACKET);
         let payload = orion::ts_depacketize(&packets).expect("whole packets");
-        lines.turned("depacketize", 0, &packets, &payload, bit);
+        lines.turned("ts_depacketize", 0, &packets, &payload, bit);
     }
 }
 
 /// The null packet, and two that are not.
 fn null(lines: &mut Lines) {
     let packet = orion::ts_null_packet();
-    lines.answer("null", 0, &[], Some(&packet));
-    lines.turned("null", 0, &[], &packet, 8 * 3 + 7);
-    lines.turned("null", 0, &[], &packet, 8 * PACKET - 1);
+    lines.answer("ts_null_packet", 0, &[], Some(&packet));
+    lines.turned("ts_null_packet", 0, &[], &packet, 8 * 3 + 7);
+    lines.turned("ts_null_packet", 0, &[], &packet, 8 * PACKET - 1);
 }
 
 /// Targets below, at and above what is there.
@@ -145,11 +148,11 @@ fn stuff(lines: &mut Lines) {
     let pairs = [(0, 0), (0, 1), (0, 2), (0, 15), (1, 0), (1, 1), (1, 2), (1, 5), (2, 1), (2, 2), (2, 3), (3, 1), (3, 8), (4, 4), (5, 12), (9, 3), (10, 11)];
     for (have, target) in pairs {
         let packets = lines.random.bytes(have * PACKET);
-        lines.answer("stuff", target, &packets, Some(&stuffed(&packets, target)));
+        lines.answer("ts_stuff_null_packets", target, &packets, Some(&stuffed(&packets, target)));
     }
     for (have, target, bit) in [(1, 3, 8 * 2 * PACKET), (2, 1, 8 * 2 * PACKET - 1)] {
         let packets = lines.random.bytes(have * PACKET);
-        lines.turned("stuff", target, &packets, &stuffed(&packets, target), bit);
+        lines.turned("ts_stuff_null_packets", target, &packets, &stuffed(&packets, target), bit);
     }
 }
 
@@ -167,11 +170,11 @@ fn disperse(lines: &mut Lines) {
     inputs.push(orion::ts_packetize(&lines.random.bytes(500)));
     inputs.push(dispersed(&inputs[2]));
     for packets in inputs {
-        lines.answer("disperse", 0, &packets, Some(&dispersed(&packets)));
+        lines.answer("ts_energy_disperse", 0, &packets, Some(&dispersed(&packets)));
     }
     for (count, bit) in [(1, 0), (2, 8 * PACKET), (9, 8 * (8 * PACKET + 1))] {
         let packets = lines.random.bytes(count * PACKET);
-        lines.turned("disperse", 0, &packets, &dispersed(&packets), bit);
+        lines.turned("ts_energy_disperse", 0, &packets, &dispersed(&packets), bit);
     }
 }
 
@@ -186,16 +189,16 @@ fn dispersed(packets: &[u8]) -> Vec<u8> {
 fn feed(lines: &mut Lines) {
     for length in [0, 1, 2, 3, 7, 8, 9, 15, 16, 17, 63, 64, 65, 187, 188, 500, 1500] {
         let bytes = lines.random.bytes(length);
-        lines.answer("feed", 0, &bytes, Some(&fed(0, &bytes)));
+        lines.answer("DvbTEnergyDispersal", 0, &bytes, Some(&fed(0, &bytes)));
     }
     for before in [1, 2, 3, 7, 8, 9, 187, 188, 1000, 1503, 4096, 32_766, 32_767, 32_768] {
         let length = lines.random.between(1, 80);
         let bytes = lines.random.bytes(length);
-        lines.answer("feed", before, &bytes, Some(&fed(before, &bytes)));
+        lines.answer("DvbTEnergyDispersal", before, &bytes, Some(&fed(before, &bytes)));
     }
     for (before, length, bit) in [(0, 1, 7), (5, 40, 0)] {
         let bytes = lines.random.bytes(length);
-        lines.turned("feed", before, &bytes, &fed(before, &bytes), bit);
+        lines.turned("DvbTEnergyDispersal", before, &bytes, &fed(before, &bytes), bit);
     }
 }
 
@@ -223,15 +226,15 @@ fn turned_floats(lines: &mut Lines, function: &str, number: usize, input: &[u8],
 fn map(lines: &mut Lines) {
     let point = |bits: &[u8]| gray::dvb_t_map_symbol(bits).map(|point| [point.re, point.im]);
     for bits in SIZES.into_iter().flat_map(groups) {
-        lines.answer("map", 0, &bits, point(&bits).map(|point| patterns(&point, pattern)).as_deref());
+        lines.answer("dvb_t_map_symbol", 0, &bits, point(&bits).map(|point| patterns(&point, pattern)).as_deref());
     }
     for length in [0, 1, 3, 5, 7, 8, 9] {
         let bits: Vec<u8> = lines.random.bytes(length).iter().map(|byte| byte & 1).collect();
         assert!(point(&bits).is_none());
-        lines.answer("map", 0, &bits, None);
+        lines.answer("dvb_t_map_symbol", 0, &bits, None);
     }
     for (bits, bit) in [(&[0, 1][..], 31), (&[1, 0, 0, 1], 32), (&[1, 0, 1, 0, 0, 1], 63), (&[0; 6], 0)] {
-        turned_floats(lines, "map", 0, bits, &point(bits).expect("a group's size"), bit);
+        turned_floats(lines, "dvb_t_map_symbol", 0, bits, &point(bits).expect("a group's size"), bit);
     }
 }
 
@@ -267,13 +270,13 @@ fn demap(lines: &mut Lines) {
     let bits = |[re, im]: [f32; 2], size| gray::dvb_t_demap_symbol(Complex32::new(re, im), size);
     for size in SIZES {
         for cell in cells(&mut lines.random, size) {
-            lines.answer("demap", size, &patterns(&cell, f32::to_bits), bits(cell, size).as_deref());
+            lines.answer("dvb_t_demap_symbol", size, &patterns(&cell, f32::to_bits), bits(cell, size).as_deref());
         }
     }
-    refused(lines, "demap", |cell, size| bits(cell, size).is_some());
+    refused(lines, "dvb_t_demap_symbol", |cell, size| bits(cell, size).is_some());
     for (size, cell, place) in [(2, [0.5, -0.0], 1), (4, [f32::NAN, 2f32.powi(30)], 2), (6, [-2f32.powi(30), 0.4], 0), (6, [0.1, -0.9], 5)] {
         let right = bits(cell, size).expect("a group's size");
-        lines.turned("demap", size, &patterns(&cell, f32::to_bits), &right, 8 * place + 7);
+        lines.turned("dvb_t_demap_symbol", size, &patterns(&cell, f32::to_bits), &right, 8 * place + 7);
     }
 }
 
@@ -283,12 +286,12 @@ fn soft(lines: &mut Lines) {
     for size in SIZES {
         for cell in cells(&mut lines.random, size) {
             let right = values(cell, size).map(|values| patterns(&values, pattern));
-            lines.answer("soft", size, &patterns(&cell, f32::to_bits), right.as_deref());
+            lines.answer("dvb_t_soft_llr", size, &patterns(&cell, f32::to_bits), right.as_deref());
         }
     }
-    refused(lines, "soft", |cell, size| values(cell, size).is_some());
+    refused(lines, "dvb_t_soft_llr", |cell, size| values(cell, size).is_some());
     for (size, cell, bit) in [(2, [0.5, -0.25], 31), (4, [f32::NAN, -0.3], 3 * 32), (6, [0.2, f32::INFINITY], 4 * 32 + 31), (6, [-0.7, 0.9], 5 * 32 + 8)] {
         let right = values(cell, size).expect("a group's size");
-        turned_floats(lines, "soft", size, &patterns(&cell, f32::to_bits), &right, bit);
+        turned_floats(lines, "dvb_t_soft_llr", size, &patterns(&cell, f32::to_bits), &right, bit);
     }
 }

@@ -44,11 +44,11 @@ pub fn encode(lines: &mut Lines) {
     informations.extend((0..INFORMATION).step_by(4).map(|place| ones(INFORMATION, &[place])));
     informations.extend((0..24).map(|_| bits(&mut lines.random, INFORMATION)));
     for info in informations {
-        lines.answer("encode", 0, &info, Some(&tps_bch_encode(&info)));
+        lines.answer("tps_bch_encode", 0, &info, Some(&tps_bch_encode(&info)));
     }
     for place in [0, 52, 53, 66] {
         let info = bits(&mut lines.random, INFORMATION);
-        lines.turned("encode", 0, &info, &tps_bch_encode(&info), 8 * place + 7);
+        lines.turned("tps_bch_encode", 0, &info, &tps_bch_encode(&info), 8 * place + 7);
     }
 }
 
@@ -82,24 +82,24 @@ pub fn decode(lines: &mut Lines) {
     words.extend(beyond(&mut lines.random));
     for word in words {
         match tps_bch_decode(&word) {
-            Some(info) => lines.answer("decode", 0, &word, Some(&info)),
-            None => lines.refused("decode", 0, &word, NO_WORD),
+            Some(info) => lines.answer("tps_bch_decode", 0, &word, Some(&info)),
+            None => lines.refused("tps_bch_decode", 0, &word, NO_WORD),
         }
     }
     for length in [0, 1, 53, 66, 68] {
         let word = bits(&mut lines.random, length);
         assert!(tps_bch_decode(&word).is_none());
-        lines.refused("decode", 0, &word, LENGTH);
+        lines.refused("tps_bch_decode", 0, &word, LENGTH);
     }
     for (count, place) in [(0, 0), (1, 26), (2, 52)] {
         let word = codeword(&mut lines.random);
         let word = wrong(&mut lines.random, &word, 0, count);
-        lines.turned("decode", 0, &word, &tps_bch_decode(&word).expect("a word near a codeword"), 8 * place + 7);
+        lines.turned("tps_bch_decode", 0, &word, &tps_bch_decode(&word).expect("a word near a codeword"), 8 * place + 7);
     }
     let word = ones(CODEWORD, &[66 - 7, 66 - 3, 66]);
     assert!(tps_bch_decode(&word).is_none());
-    lines.refused("~decode", 0, &word, RESERVED);
-    lines.answer("~decode", 0, &word, Some(&word[..INFORMATION]));
+    lines.wrong("tps_bch_decode", 0, &word, RESERVED, &[]);
+    lines.wrong("tps_bch_decode", 0, &word, 0, &word[..INFORMATION]);
 }
 
 /// The bits of a word with these fields.
@@ -122,20 +122,20 @@ fn words(random: &mut Random) -> Vec<[u8; 5]> {
 /// The words, and four with a bit turned.
 pub fn pack(lines: &mut Lines) {
     for fields in words(&mut lines.random) {
-        lines.answer("pack", 0, &fields, Some(&packed(fields)));
+        lines.answer("TpsWord::pack", 0, &fields, Some(&packed(fields)));
     }
     for (fields, place) in [([1, 0, 3, 2, 77], 0), ([2, 1, 0, 3, 1], 1), ([3, 2, 4, 0, 200], 24), ([0, 0, 0, 0, 0], 67)] {
-        lines.turned("pack", 0, &fields, &packed(fields), 8 * place + 7);
+        lines.turned("TpsWord::pack", 0, &fields, &packed(fields), 8 * place + 7);
     }
 }
 
 /// Adds what unpacking answers; its None is LENGTH, NO WORD where the code has no word, and else RESERVED.
 fn unpacked(lines: &mut Lines, bits: &[u8]) {
     match TpsWord::unpack(bits) {
-        Some(word) => lines.answer("unpack", 0, bits, Some(&orion_fields(word))),
-        None if bits.len() != CODEWORD + 1 => lines.refused("unpack", 0, bits, LENGTH),
-        None if tps_bch_decode(&bits[1..]).is_none() => lines.refused("unpack", 0, bits, NO_WORD),
-        None => lines.refused("unpack", 0, bits, RESERVED),
+        Some(word) => lines.answer("TpsWord::unpack", 0, bits, Some(&orion_fields(word))),
+        None if bits.len() != CODEWORD + 1 => lines.refused("TpsWord::unpack", 0, bits, LENGTH),
+        None if tps_bch_decode(&bits[1..]).is_none() => lines.refused("TpsWord::unpack", 0, bits, NO_WORD),
+        None => lines.refused("TpsWord::unpack", 0, bits, RESERVED),
     }
 }
 
@@ -163,10 +163,10 @@ pub fn unpack(lines: &mut Lines) {
     }
     for bit in [7, 8 + 7, 2 * 8 + 5, 3 * 8 + 6, 4 * 8] {
         let fields = [2, 1, 3, 0, 0x5A];
-        lines.turned("unpack", 0, &packed(fields), &fields, bit);
+        lines.turned("TpsWord::unpack", 0, &packed(fields), &fields, bit);
     }
     let reserved = tps_bch_encode(&ones(INFORMATION, &[24, 25]));
     let word: Vec<u8> = std::iter::once(0).chain(reserved).collect();
     assert!(TpsWord::unpack(&word).is_none());
-    lines.refused("~unpack", 0, &word, NO_WORD);
+    lines.wrong("TpsWord::unpack", 0, &word, NO_WORD, &[]);
 }

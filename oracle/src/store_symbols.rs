@@ -21,11 +21,9 @@ fn ruled(number: u8) -> Vec<Complex32> {
     (0..SYMBOL).map(|bin| Complex32::new(float(2 * bin), float(2 * bin + 1))).collect()
 }
 
-/// The bins that cells of a symbol by the rule come from, two bytes each.
-fn bins(number: u8, cells: &[Complex32]) -> Vec<u8> {
-    let symbol = ruled(number);
-    let bin = |cell: &Complex32| symbol.iter().position(|other| other == cell).expect("a cell of the symbol") as u16;
-    cells.iter().flat_map(|cell| bin(cell).to_be_bytes()).collect()
+/// Cells as floats, re and im in turn.
+fn floats(cells: &[Complex32]) -> Vec<f32> {
+    cells.iter().flat_map(|cell| [cell.re, cell.im]).collect()
 }
 
 /// The data cells of the last of some symbols, as an extractor reads them one after another, and its phase at the last.
@@ -39,14 +37,14 @@ fn extracted(numbers: &[u8]) -> (u8, Vec<Complex32>) {
     (phase, data)
 }
 
-/// Symbol p in phase p, and two with a bit of a bin turned.
+/// Symbol p in phase p, and two with a bit of a float turned.
 pub fn extract(lines: &mut Lines) {
-    let answer = |phase: u8| bins(phase, &extracted(&(0..=phase).collect::<Vec<_>>()).1);
+    let answer = |phase: u8| floats(&extracted(&(0..=phase).collect::<Vec<_>>()).1);
     for phase in 0..4 {
-        lines.answer("extract", usize::from(phase), &[], Some(&answer(phase)));
+        lines.answer("ScatteredPilotExtractor", usize::from(phase), &[], Some(&patterns(&answer(phase), pattern)));
     }
-    for (phase, bit) in [(1, 15), (3, 16 * DATA - 1)] {
-        lines.turned("extract", usize::from(phase), &[], &answer(phase), bit);
+    for (phase, bit) in [(1, 31), (3, 64 * DATA - 1)] {
+        turned_floats(lines, "ScatteredPilotExtractor", usize::from(phase), &[], &answer(phase), bit);
     }
 }
 
@@ -56,10 +54,9 @@ pub fn mapped(lines: &mut Lines) {
     for phase in 0..4 {
         let mut symbol = vec![Complex32::new(f32::NAN, f32::NAN); SYMBOL];
         mapper.map_symbol(&ruled(0)[..DATA], &mut symbol);
-        let floats: Vec<f32> = symbol.iter().flat_map(|cell| [cell.re, cell.im]).collect();
-        lines.answer("mapped", phase, &[], Some(&patterns(&floats, pattern)));
+        lines.answer("ScatteredPilotMapper", phase, &[], Some(&patterns(&floats(&symbol), pattern)));
         if phase == 2 {
-            turned_floats(lines, "mapped", phase, &[], &floats, 64 * tps_carrier_bins()[5]);
+            turned_floats(lines, "ScatteredPilotMapper", phase, &[], &floats(&symbol), 64 * tps_carrier_bins()[5]);
         }
     }
 }
@@ -77,14 +74,15 @@ fn standing(script: &[u8]) -> Vec<u8> {
     symbols
 }
 
-/// What orion-sdr's extractor and decoder give, each run afresh on symbols: the phase in which the last is read, its bit, its data's bins, all bits.
+/// What orion-sdr's extractor and decoder give, each run afresh on symbols: the last one's data, the phase in which it is read, its bit, how many
+/// symbols stand, and their bits in the room of 68.
 fn afresh(to_extract: &[u8], to_decode: &[u8]) -> Vec<u8> {
-    let last = *to_extract.last().expect("a symbol that stands");
     let (phase, data) = extracted(to_extract);
     let tps = to_decode.iter().map(|number| tps_carrier_bins().map(|bin| ruled(*number)[bin])).collect::<Vec<_>>();
-    let bits = received(&tps);
-    let mut answer = vec![phase, *bits.last().expect("a symbol that stands")];
-    answer.extend(bins(last, &data));
+    let mut bits = received(&tps);
+    let mut answer = patterns(&floats(&data), pattern);
+    answer.extend([phase, *bits.last().expect("a symbol that stands"), bits.len() as u8]);
+    bits.resize(68, 0);
     answer.extend(bits);
     answer
 }
@@ -105,16 +103,17 @@ fn scripts() -> Vec<Vec<u8>> {
 pub fn session(lines: &mut Lines) {
     for script in scripts() {
         let symbols = standing(&script);
-        lines.answer("session", 0, &script, Some(&afresh(&symbols, &symbols)));
+        lines.answer("Session", 0, &script, Some(&afresh(&symbols, &symbols)));
     }
     let script = [0, 1, STEP_BACK, 2];
     let right = afresh(&[0, 2], &[0, 2]);
     let phase_kept = afresh(&[0, 1, 2], &[0, 2]);
     let cells_kept = afresh(&[0, 2], &[1, 2]);
-    let data_only = [&right[..2], &phase_kept[2..]].concat();
-    assert!(right[0] == 1 && phase_kept[0] == 2 && right[2..] != phase_kept[2..] && right[1] == 0 && cells_kept[1] == 1);
+    let data_only = [&phase_kept[..8 * DATA], &right[8 * DATA..]].concat();
+    let (phase, bit) = (8 * DATA, 8 * DATA + 1);
+    assert!(right[phase] == 1 && phase_kept[phase] == 2 && right[..phase] != phase_kept[..phase] && right[bit] == 0 && cells_kept[bit] == 1);
     for wrong in [phase_kept, data_only, cells_kept] {
-        lines.answer("~session", 0, &script, Some(&wrong));
+        lines.wrong("Session", 0, &script, 0, &wrong);
     }
-    lines.turned("session", 0, &script, &right, 8 * (2 + 2 * DATA) + 7);
+    lines.turned("Session", 0, &script, &right, 8 * (8 * DATA + 3) + 7);
 }

@@ -50,11 +50,11 @@ pub fn send(lines: &mut Lines) {
     runs.push(frame());
     for run in runs {
         let cells = patterns(&floats(&sent(&run)), pattern);
-        lines.answer("send", 0, &run, Some(&cells));
+        lines.answer("TpsEncoder", 0, &run, Some(&cells));
     }
     for bit in [0, 32, 3 * 34 * 32] {
         let run = [1, 0, 1, 1];
-        turned_floats(lines, "send", 0, &run, &floats(&sent(&run)), bit);
+        turned_floats(lines, "TpsEncoder", 0, &run, &floats(&sent(&run)), bit);
     }
 }
 
@@ -129,11 +129,11 @@ pub fn receive(lines: &mut Lines) {
     }
     runs.extend((0..8).map(|_| rounded(&mut lines.random)));
     for run in runs {
-        lines.answer("receive", 0, &patterns(&floats(&run), f32::to_bits), Some(&received(&run)));
+        lines.answer("TpsDecoder", 0, &patterns(&floats(&run), f32::to_bits), Some(&received(&run)));
     }
     for place in [0, 3, 7] {
         let bits = bits(&mut lines.random, 8);
         let run = noisy(&mut lines.random, &bits, 0.5);
-        lines.turned("receive", 0, &patterns(&floats(&run), f32::to_bits), &received(&run), 8 * place + 7);
+        lines.turned("TpsDecoder", 0, &patterns(&floats(&run), f32::to_bits), &received(&run), 8 * place + 7);
     }
 }

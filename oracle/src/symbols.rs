@@ -146,10 +146,10 @@ struct Side {
 
 const MAPPER: Side = Side {
     shape: MAP,
-    new: || call::mapper_new().phase,
-    reset: |phase| call::mapper_reset(SaltScatteredPilotMapper { phase }).phase,
+    new: || call::scattered_pilot_mapper_new().phase,
+    reset: |phase| call::scattered_pilot_mapper_reset(SaltScatteredPilotMapper { phase }).phase,
     symbol: |phase, data, symbol| {
-        let answer = call::mapper_map_symbol(SaltScatteredPilotMapper { phase }, data, symbol);
+        let answer = call::scattered_pilot_mapper_map_symbol(SaltScatteredPilotMapper { phase }, data, symbol);
         (answer.number, answer.mapper.phase)
     },
     theirs: |guard| Box::new(ScatteredPilotMapper::new(guard)),
@@ -157,10 +157,10 @@ const MAPPER: Side = Side {
 
 const EXTRACTOR: Side = Side {
     shape: EXTRACT,
-    new: || call::extractor_new().phase,
-    reset: |phase| call::extractor_reset(SaltScatteredPilotExtractor { phase }).phase,
+    new: || call::scattered_pilot_extractor_new().phase,
+    reset: |phase| call::scattered_pilot_extractor_reset(SaltScatteredPilotExtractor { phase }).phase,
     symbol: |phase, symbol, data| {
-        let answer = call::extractor_extract_symbol(SaltScatteredPilotExtractor { phase }, symbol, data);
+        let answer = call::scattered_pilot_extractor_extract_symbol(SaltScatteredPilotExtractor { phase }, symbol, data);
         (answer.number, answer.extractor.phase)
     },
     theirs: |guard| Box::new(ScatteredPilotExtractor::new(guard)),

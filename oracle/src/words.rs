@@ -232,13 +232,14 @@ impl Subject for Unpack {
     }
 
     fn in_bulk(&self, random: &mut Random, differs: &mut dyn FnMut(Vec<u8>)) -> usize {
-        for _ in 0..WORDS {
+        let count = random.part_of(WORDS);
+        for _ in 0..count {
             let bits = some_received(random);
             if call::tps_word_unpack(&bits) != owed(TpsWord::unpack(&bits), &bits) {
                 differs(bits.to_vec());
             }
         }
-        WORDS
+        count
     }
 
     fn ours(&self, case: &Vec<u8>) -> Answer {

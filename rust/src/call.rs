@@ -1,18 +1,24 @@
-//! A safe function over each function of the C interface, and nothing more: a slice becomes its pointer and its length, and a receiver that is lent the
-//! pointers of its three parts. The comparison with orion-sdr (`oracle/`) calls the library by these functions too.
+//! A safe function over each function of the C interface: a slice becomes its pointer and its length. The comparison
+//! with orion-sdr (`oracle/`) calls the library by these functions too.
+//! `include/generate` makes this file from crates/saltkernel: change it there.
 //!
-//! Why each is safe: the library is proved to read and write only inside the slices and parts that it is given, for all lengths and values; the cells of a
-//! receiver have the layout of their numbers; and a result is plain numbers, each of whose values is one of its type.
+//! Why each is safe: the library is proved to read and write only inside the slices and arrays that it is given, for all
+//! lengths and values, and a result is plain numbers, each of whose values is one of its type.
 
 use crate::sys::*;
 
-// ---- cells
+/// A receiver's cells as the floats that are lent of it: a cell is two floats and no more.
+pub fn floats_of(cells: &mut [SaltCell; SALT_TPS_CARRIERS]) -> &mut [f32; SALT_TPS_FLOATS] {
+    unsafe { &mut *cells.as_mut_ptr().cast() }
+}
+
+// ---- Cells
 
 pub fn cell_same(cell: SaltCell, other: SaltCell) -> u8 {
     unsafe { salt_cell_same(cell, other) }
 }
 
-// ---- transport packets
+// ---- Transport packets, and energy dispersal over them (4.3.1)
 
 pub fn ts_packetize(payload: &[u8], out: &mut [u8]) -> SaltCounted {
     unsafe { salt_ts_packetize(payload.as_ptr(), payload.len(), out.as_mut_ptr(), out.len()) }
@@ -30,33 +36,33 @@ pub fn ts_stuff_null_packets(ts: &mut [u8], used: usize, target: usize) -> SaltC
     unsafe { salt_ts_stuff_null_packets(ts.as_mut_ptr(), ts.len(), used, target) }
 }
 
-// ---- energy dispersal
-
 pub fn ts_energy_disperse(packets: &mut [u8]) -> SaltCounted {
     unsafe { salt_ts_energy_disperse(packets.as_mut_ptr(), packets.len()) }
 }
 
-pub fn energy_dispersal_new() -> SaltDvbTEnergyDispersal {
+// ---- The whitener of energy dispersal (4.3.1)
+
+pub fn dvb_t_energy_dispersal_new() -> SaltDvbTEnergyDispersal {
     unsafe { salt_dvb_t_energy_dispersal_new() }
 }
 
-pub fn energy_dispersal_reset(whitener: SaltDvbTEnergyDispersal) -> SaltDvbTEnergyDispersal {
+pub fn dvb_t_energy_dispersal_reset(whitener: SaltDvbTEnergyDispersal) -> SaltDvbTEnergyDispersal {
     unsafe { salt_dvb_t_energy_dispersal_reset(whitener) }
 }
 
-pub fn energy_dispersal_advance_byte(whitener: SaltDvbTEnergyDispersal) -> SaltDvbTEnergyDispersal {
+pub fn dvb_t_energy_dispersal_advance_byte(whitener: SaltDvbTEnergyDispersal) -> SaltDvbTEnergyDispersal {
     unsafe { salt_dvb_t_energy_dispersal_advance_byte(whitener) }
 }
 
-pub fn energy_dispersal_feed_in_place(whitener: SaltDvbTEnergyDispersal, bytes: &mut [u8]) -> SaltDvbTEnergyDispersal {
+pub fn dvb_t_energy_dispersal_feed_in_place(whitener: SaltDvbTEnergyDispersal, bytes: &mut [u8]) -> SaltDvbTEnergyDispersal {
     unsafe { salt_dvb_t_energy_dispersal_feed_in_place(whitener, bytes.as_mut_ptr(), bytes.len()) }
 }
 
-pub fn energy_dispersal_feed(whitener: SaltDvbTEnergyDispersal, bytes: &[u8], out: &mut [u8]) -> SaltFed {
+pub fn dvb_t_energy_dispersal_feed(whitener: SaltDvbTEnergyDispersal, bytes: &[u8], out: &mut [u8]) -> SaltFed {
     unsafe { salt_dvb_t_energy_dispersal_feed(whitener, bytes.as_ptr(), bytes.len(), out.as_mut_ptr(), out.len()) }
 }
 
-// ---- Gray mapping
+// ---- Gray mapping, hard and soft demapping (4.3.5)
 
 pub fn dvb_t_map_symbol(bits: &[u8]) -> SaltMapped {
     unsafe { salt_dvb_t_map_symbol(bits.as_ptr(), bits.len()) }
@@ -70,7 +76,7 @@ pub fn dvb_t_soft_llr(sym: SaltCell, v: usize) -> SaltSoft {
     unsafe { salt_dvb_t_soft_llr(sym, v) }
 }
 
-// ---- carriers and pilots
+// ---- Carriers and pilots (4.5)
 
 pub fn active_to_signed(active: u16) -> SaltSigned {
     unsafe { salt_active_to_signed(active) }
@@ -124,41 +130,41 @@ pub fn reference_pilot_bins(phase: usize, bins: &mut [u16], values: &mut [f32]) 
     unsafe { salt_reference_pilot_bins(phase, bins.as_mut_ptr(), bins.len(), values.as_mut_ptr(), values.len()) }
 }
 
-// ---- symbols
+// ---- Symbols from data cells, and data cells from symbols (4.5)
 
-pub fn mapper_new() -> SaltScatteredPilotMapper {
+pub fn scattered_pilot_mapper_new() -> SaltScatteredPilotMapper {
     unsafe { salt_scattered_pilot_mapper_new() }
 }
 
-pub fn mapper_reset(mapper: SaltScatteredPilotMapper) -> SaltScatteredPilotMapper {
+pub fn scattered_pilot_mapper_reset(mapper: SaltScatteredPilotMapper) -> SaltScatteredPilotMapper {
     unsafe { salt_scattered_pilot_mapper_reset(mapper) }
 }
 
-pub fn mapper_map_symbol(mapper: SaltScatteredPilotMapper, cells: &[f32], symbol: &mut [f32]) -> SaltMapAnswer {
+pub fn scattered_pilot_mapper_map_symbol(mapper: SaltScatteredPilotMapper, cells: &[f32], symbol: &mut [f32]) -> SaltMapAnswer {
     unsafe { salt_scattered_pilot_mapper_map_symbol(mapper, cells.as_ptr(), cells.len(), symbol.as_mut_ptr(), symbol.len()) }
 }
 
-pub fn extractor_new() -> SaltScatteredPilotExtractor {
+pub fn scattered_pilot_extractor_new() -> SaltScatteredPilotExtractor {
     unsafe { salt_scattered_pilot_extractor_new() }
 }
 
-pub fn extractor_reset(extractor: SaltScatteredPilotExtractor) -> SaltScatteredPilotExtractor {
+pub fn scattered_pilot_extractor_reset(extractor: SaltScatteredPilotExtractor) -> SaltScatteredPilotExtractor {
     unsafe { salt_scattered_pilot_extractor_reset(extractor) }
 }
 
-pub fn extractor_phase(extractor: SaltScatteredPilotExtractor) -> usize {
+pub fn scattered_pilot_extractor_phase(extractor: SaltScatteredPilotExtractor) -> usize {
     unsafe { salt_scattered_pilot_extractor_phase(extractor) }
 }
 
-pub fn extractor_data_bins(extractor: SaltScatteredPilotExtractor, out: &mut [u16]) -> SaltCounted {
+pub fn scattered_pilot_extractor_data_bins(extractor: SaltScatteredPilotExtractor, out: &mut [u16]) -> SaltCounted {
     unsafe { salt_scattered_pilot_extractor_data_bins(extractor, out.as_mut_ptr(), out.len()) }
 }
 
-pub fn extractor_current_pilot_bins(extractor: SaltScatteredPilotExtractor, bins: &mut [u16], values: &mut [f32]) -> SaltCounted {
+pub fn scattered_pilot_extractor_current_pilot_bins(extractor: SaltScatteredPilotExtractor, bins: &mut [u16], values: &mut [f32]) -> SaltCounted {
     unsafe { salt_scattered_pilot_extractor_current_pilot_bins(extractor, bins.as_mut_ptr(), bins.len(), values.as_mut_ptr(), values.len()) }
 }
 
-pub fn extractor_extract_symbol(extractor: SaltScatteredPilotExtractor, symbol: &[f32], out: &mut [f32]) -> SaltExtractAnswer {
+pub fn scattered_pilot_extractor_extract_symbol(extractor: SaltScatteredPilotExtractor, symbol: &[f32], out: &mut [f32]) -> SaltExtractAnswer {
     unsafe { salt_scattered_pilot_extractor_extract_symbol(extractor, symbol.as_ptr(), symbol.len(), out.as_mut_ptr(), out.len()) }
 }
 
@@ -170,7 +176,7 @@ pub fn grid_extract(symbol: &[f32], out: &mut [f32]) -> SaltCounted {
     unsafe { salt_grid_extract(symbol.as_ptr(), symbol.len(), out.as_mut_ptr(), out.len()) }
 }
 
-// ---- the code of the TPS words
+// ---- The code of the TPS words (4.6.2.11)
 
 pub fn tps_bch_encode(info: &[u8], out: &mut [u8]) -> SaltCounted {
     unsafe { salt_tps_bch_encode(info.as_ptr(), info.len(), out.as_mut_ptr(), out.len()) }
@@ -180,7 +186,7 @@ pub fn tps_bch_decode(code: &[u8], out: &mut [u8]) -> SaltCounted {
     unsafe { salt_tps_bch_decode(code.as_ptr(), code.len(), out.as_mut_ptr(), out.len()) }
 }
 
-// ---- the TPS word
+// ---- The TPS word (4.6.2)
 
 pub fn tps_word_pack(word: SaltTpsWord, out: &mut [u8]) -> SaltCounted {
     unsafe { salt_tps_word_pack(word, out.as_mut_ptr(), out.len()) }
@@ -190,7 +196,7 @@ pub fn tps_word_unpack(bits: &[u8]) -> SaltUnpacked {
     unsafe { salt_tps_word_unpack(bits.as_ptr(), bits.len()) }
 }
 
-// ---- the TPS frame, sent and received
+// ---- The TPS frame, sent and received (4.6.3)
 
 pub fn tps_encoder_new() -> SaltTpsEncoder {
     unsafe { salt_tps_encoder_new() }
@@ -216,8 +222,8 @@ pub fn tps_decoder_feed_symbol(decoder: SaltTpsDecoder, cells: &[f32]) -> SaltTp
     unsafe { salt_tps_decoder_feed_symbol(decoder, cells.as_ptr(), cells.len()) }
 }
 
-pub fn tps_decoder_feed_in_place(prev: &mut [SaltCell; 17], bits: &mut [u8; 68], count: &mut usize, cells: &[f32]) -> SaltTpsBit {
-    unsafe { salt_tps_decoder_feed_in_place(prev.as_mut_ptr().cast(), bits.as_mut_ptr(), count, cells.as_ptr(), cells.len()) }
+pub fn tps_decoder_feed_in_place(prev: &mut [f32; SALT_TPS_FLOATS], bits: &mut [u8; SALT_TPS_WORD_BITS], count: &mut usize, cells: &[f32]) -> SaltTpsBit {
+    unsafe { salt_tps_decoder_feed_in_place(prev.as_mut_ptr(), bits.as_mut_ptr(), count, cells.as_ptr(), cells.len()) }
 }
 
 pub fn tps_decoder_is_complete(decoder: SaltTpsDecoder) -> u8 {
@@ -232,7 +238,7 @@ pub fn tps_decoder_word(decoder: SaltTpsDecoder) -> SaltUnpacked {
     unsafe { salt_tps_decoder_word(decoder) }
 }
 
-// ---- the receive session
+// ---- The receive session
 
 pub fn session_new() -> SaltSession {
     unsafe { salt_session_new() }
@@ -258,11 +264,7 @@ pub fn session_word(session: SaltSession) -> SaltUnpacked {
     unsafe { salt_session_word(session) }
 }
 
-pub fn session_run(script: &[u8], symbols: &[f32], journal: &mut [f32]) -> SaltSession {
-    unsafe { salt_session_run(script.as_ptr(), script.len(), symbols.as_ptr(), symbols.len(), journal.as_mut_ptr(), journal.len()) }
-}
-
-// ---- the report
+// ---- The report on received words
 
 pub fn read_line(line: &[u8]) -> SaltUnpacked {
     unsafe { salt_read_line(line.as_ptr(), line.len()) }

@@ -33,17 +33,17 @@ impl Default for DvbTEnergyDispersal {
 impl DvbTEnergyDispersal {
     /// A whitener at the start.
     pub fn new() -> Self {
-        Self { state: call::energy_dispersal_new() }
+        Self { state: call::dvb_t_energy_dispersal_new() }
     }
 
     /// Goes back to the start.
     pub fn reset(&mut self) {
-        self.state = call::energy_dispersal_reset(self.state);
+        self.state = call::dvb_t_energy_dispersal_reset(self.state);
     }
 
     /// Whitens bytes in place, and stands behind them.
     pub fn feed_in_place(&mut self, data: &mut [u8]) {
-        self.state = call::energy_dispersal_feed_in_place(self.state, data);
+        self.state = call::dvb_t_energy_dispersal_feed_in_place(self.state, data);
     }
 
     /// Whitens bytes, and stands behind them.
@@ -55,13 +55,13 @@ impl DvbTEnergyDispersal {
 
     /// [`feed`](Self::feed) into a lent output; gives the bytes written, or [`Refusal::OutputShort`].
     pub fn feed_into(&mut self, data: &[u8], out: &mut [u8]) -> Result<usize, Refusal> {
-        let fed = call::energy_dispersal_feed(self.state, data, out);
+        let fed = call::dvb_t_energy_dispersal_feed(self.state, data, out);
         self.state = fed.whitener;
         count_of(fed.answer)
     }
 
     /// Moves eight steps on, as over a byte that stays as it is.
     pub fn advance_byte(&mut self) {
-        self.state = call::energy_dispersal_advance_byte(self.state);
+        self.state = call::dvb_t_energy_dispersal_advance_byte(self.state);
     }
 }

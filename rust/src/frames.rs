@@ -4,13 +4,13 @@ use crate::call;
 use crate::complex::Complex32;
 use crate::numbers::{floats, floats_mut};
 use crate::refusal::{accepted, Refusal};
-use crate::sys::{SaltTpsDecoder, SaltTpsEncoder};
+use crate::sys::{SaltTpsDecoder, SaltTpsEncoder, SALT_TPS_CARRIERS, SALT_TPS_WORD_BITS};
 use crate::words::{word_of, TpsWord};
 
 /// The TPS carriers of a symbol.
-pub const TPS_CARRIER_COUNT: usize = 17;
+pub const TPS_CARRIER_COUNT: usize = SALT_TPS_CARRIERS;
 /// The symbols of a frame, a bit of the word each.
-pub const TPS_SYMBOLS_PER_FRAME: usize = 68;
+pub const TPS_SYMBOLS_PER_FRAME: usize = SALT_TPS_WORD_BITS;
 
 /// The sender of a frame's TPS cells (EN 300 744, 4.6.3).
 ///
@@ -103,7 +103,7 @@ impl TpsDecoder {
     /// cells is below zero. Refusals: [`Refusal::Length`] for fewer than 17 cells, then [`Refusal::Full`] when 68 symbols stand.
     pub fn feed_symbol(&mut self, cells: &[Complex32]) -> Result<u8, Refusal> {
         let SaltTpsDecoder { prev, bits, count } = &mut self.state;
-        let fed = call::tps_decoder_feed_in_place(prev, bits, count, floats(cells));
+        let fed = call::tps_decoder_feed_in_place(call::floats_of(prev), bits, count, floats(cells));
         accepted(fed.number, fed.bit)
     }
 

@@ -2,16 +2,16 @@
 
 use crate::call;
 use crate::refusal::{accepted, Refusal};
-use crate::sys::SaltCounted;
+use crate::sys::{SaltCounted, SALT_GROUP_PACKETS, SALT_PACKET_BYTES, SALT_PAYLOAD_BYTES, SALT_SYNC_BYTE};
 
 /// The bytes of a transport packet.
-pub const TS_PACKET_LEN: usize = 188;
+pub const TS_PACKET_LEN: usize = SALT_PACKET_BYTES;
 /// The payload bytes of a packet.
-pub const TS_PAYLOAD_LEN: usize = 187;
+pub const TS_PAYLOAD_LEN: usize = SALT_PAYLOAD_BYTES;
 /// The first byte of a packet.
-pub const TS_SYNC_BYTE: u8 = 0x47;
+pub const TS_SYNC_BYTE: u8 = SALT_SYNC_BYTE;
 /// Packets from one restart of the whitener's register to the next.
-pub const TS_DISPERSAL_GROUP: usize = 8;
+pub const TS_DISPERSAL_GROUP: usize = SALT_GROUP_PACKETS;
 
 /// The count of an answer, or its refusal.
 pub(crate) fn count_of(answer: SaltCounted) -> Result<usize, Refusal> {

@@ -6,23 +6,22 @@ use crate::complex::Complex32;
 use crate::numbers::{bins_mut, floats_mut, indices_mut};
 use crate::packets::count_of;
 use crate::refusal::{accepted, Refusal};
+use crate::sys::*;
 
 /// The cells of a symbol.
-pub const DVB_T_N_FFT: usize = 2048;
+pub const DVB_T_N_FFT: usize = SALT_SYMBOL_CELLS;
 /// The last active index.
-pub const DVB_T_KMAX: usize = 1704;
+pub const DVB_T_KMAX: usize = SALT_ACTIVE_CARRIERS - 1;
 /// The active carriers.
-pub const DVB_T_ACTIVE_CARRIERS: usize = 1705;
+pub const DVB_T_ACTIVE_CARRIERS: usize = SALT_ACTIVE_CARRIERS;
 /// The data carriers of a symbol.
-pub const DVB_T_DATA_CARRIERS: usize = 1512;
+pub const DVB_T_DATA_CARRIERS: usize = SALT_DATA_CELLS;
 /// The continual carriers.
-pub const DVB_T_CONTINUAL_CARRIERS: usize = 45;
+pub const DVB_T_CONTINUAL_CARRIERS: usize = SALT_CONTINUAL_CARRIERS;
 /// The phases of the scattered pilots.
-pub const DVB_T_SCATTERED_PHASES: usize = 4;
+pub const DVB_T_SCATTERED_PHASES: usize = SALT_SCATTERED_PHASES;
 /// The reference pilots of a symbol: its continual and scattered carriers.
-pub const DVB_T_REFERENCE_PILOTS: usize = 176;
-/// The scattered carriers of phase 0; the other phases have one fewer.
-const SCATTERED_MOST: usize = 143;
+pub const DVB_T_REFERENCE_PILOTS: usize = SALT_REFERENCE_PILOTS;
 
 /// The first `len` bits of the pilot sequence w; the bit of an active carrier stands at its index (EN 300 744, 4.5.2).
 ///
@@ -91,7 +90,7 @@ pub fn tps_carrier_bins() -> [Bin; 17] {
 /// assert_eq!(scattered_pilot_indices(5)[..2], [Active(3), Active(15)]);
 /// ```
 pub fn scattered_pilot_indices(phase: usize) -> Vec<Active> {
-    let mut out = vec![Active(0); SCATTERED_MOST];
+    let mut out = vec![Active(0); SALT_SCATTERED_MOST];
     let count = scattered_pilot_indices_into(phase, &mut out).expect("the output is as long as needed");
     out.truncate(count);
     out

@@ -1,5 +1,6 @@
 //! The refusals of document 01.
 
+use crate::sys::*;
 use std::fmt;
 
 /// Why a call was refused, by document 01's name and number.
@@ -19,23 +20,23 @@ use std::fmt;
 #[repr(u8)]
 pub enum Refusal {
     /// An input slice, group size, byte count or carrier index is outside what the call takes.
-    Length = 1,
+    Length = SALT_LENGTH,
     /// A bit argument, or an item of a bit slice, is above 1.
-    NotABit = 2,
+    NotABit = SALT_NOT_A_BIT,
     /// A lent output or journal is shorter than needed.
-    OutputShort = 3,
+    OutputShort = SALT_OUTPUT_SHORT,
     /// No codeword lies within distance two.
-    NoWord = 4,
+    NoWord = SALT_NO_WORD,
     /// Constellation code 3, or rate code 5, 6 or 7.
-    Reserved = 5,
+    Reserved = SALT_RESERVED,
     /// A symbol is fed when 68 stand.
-    Full = 6,
+    Full = SALT_FULL,
     /// A step back when none stands.
-    Empty = 7,
+    Empty = SALT_EMPTY,
     /// A word is asked for with fewer than 68.
-    Incomplete = 8,
+    Incomplete = SALT_INCOMPLETE,
     /// A line of the report's input isn't 17 digits from 0-9 and a-f.
-    BadLine = 9,
+    BadLine = SALT_BAD_LINE,
 }
 
 impl Refusal {

@@ -6,15 +6,15 @@
 use crate::call;
 use crate::packets::count_of;
 use crate::refusal::Refusal;
-use crate::sys::{SaltReader, SaltTpsWord, SaltUnpacked};
+use crate::sys::{SaltReader, SaltTpsWord, SaltUnpacked, SALT_CLOSE_ROOM, SALT_HEADING_BYTES, SALT_LINE_ROOM};
 use crate::words::{codes_of, word_of, TpsWord};
 
 /// The bytes of the heading.
-pub const HEADING_BYTES: usize = 34;
+pub const HEADING_BYTES: usize = SALT_HEADING_BYTES;
 /// Room in bytes for every line of the report.
-pub const LINE_ROOM: usize = 60;
+pub const LINE_ROOM: usize = SALT_LINE_ROOM;
 /// Room in bytes for the report's end.
-pub const CLOSE_ROOM: usize = 2 * LINE_ROOM;
+pub const CLOSE_ROOM: usize = SALT_CLOSE_ROOM;
 
 /// The bytes of input that [`Reader::feed`] takes at once.
 const PIECE: usize = 64;

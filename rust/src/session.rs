@@ -4,11 +4,8 @@ use crate::call;
 use crate::complex::Complex32;
 use crate::numbers::{floats, floats_mut};
 use crate::refusal::{accepted, Refusal};
-use crate::sys::SaltSession;
+use crate::sys::{SaltSession, SALT_JOURNAL_FLOATS};
 use crate::words::{word_of, TpsWord};
-
-/// The f32 of a journal: the TPS cells of 68 symbols.
-const JOURNAL_FLOATS: usize = 2312;
 
 /// The receive session: the extractor and the TPS decoder joined, and it can step back. With n symbols standing the phase is n mod 4.
 ///
@@ -39,7 +36,7 @@ const JOURNAL_FLOATS: usize = 2312;
 #[derive(Clone, Debug)]
 pub struct Session {
     state: SaltSession,
-    journal: Box<[f32; JOURNAL_FLOATS]>,
+    journal: Box<[f32; SALT_JOURNAL_FLOATS]>,
 }
 
 impl Default for Session {
@@ -51,15 +48,7 @@ impl Default for Session {
 impl Session {
     /// A session with no symbol standing.
     pub fn new() -> Self {
-        Self { state: call::session_new(), journal: Box::new([0.0; JOURNAL_FLOATS]) }
-    }
-
-    /// The session after a script of calls on a new one: the byte 255 resets, 254 steps back, and a lower byte k feeds symbol k of the symbols in a row,
-    /// 2,048 cells each, the data cells dropped. A call that is refused changes nothing, and the script goes on.
-    pub fn run(script: &[u8], symbols: &[Complex32]) -> Self {
-        let mut journal = Box::new([0.0; JOURNAL_FLOATS]);
-        let state = call::session_run(script, floats(symbols), &mut journal[..]);
-        Self { state, journal }
+        Self { state: call::session_new(), journal: Box::new([0.0; SALT_JOURNAL_FLOATS]) }
     }
 
     /// Goes back to no symbol standing.

@@ -7,7 +7,7 @@ use crate::numbers::{bins_mut, floats, floats_mut};
 use crate::packets::count_of;
 use crate::pilots::{DVB_T_DATA_CARRIERS, DVB_T_N_FFT, DVB_T_REFERENCE_PILOTS};
 use crate::refusal::{accepted, Refusal};
-use crate::sys::{SaltScatteredPilotExtractor, SaltScatteredPilotMapper};
+use crate::sys::{SaltScatteredPilotExtractor, SaltScatteredPilotMapper, SALT_STATIC_DATA_CELLS};
 use crate::words::GuardInterval;
 
 /// The mapper: makes symbols, each in the phase after the last one's (EN 300 744, 4.5).
@@ -36,7 +36,7 @@ pub struct ScatteredPilotMapper {
 impl ScatteredPilotMapper {
     /// A mapper in phase 0; the guard interval plays no part in the grid.
     pub fn new(_guard: GuardInterval) -> Self {
-        Self { state: call::mapper_new() }
+        Self { state: call::scattered_pilot_mapper_new() }
     }
 
     /// The data carriers of a symbol, 1,512.
@@ -51,13 +51,13 @@ impl ScatteredPilotMapper {
 
     /// Goes back to phase 0.
     pub fn reset(&mut self) {
-        self.state = call::mapper_reset(self.state);
+        self.state = call::scattered_pilot_mapper_reset(self.state);
     }
 
     /// Makes a symbol: 2,048 cells +0.0, then the 1,512 data cells in their bins, then the boosted value on every reserved carrier, TPS carriers among
     /// them. Refusals: [`Refusal::Length`] for fewer data cells, then [`Refusal::OutputShort`].
     pub fn map_symbol(&mut self, data: &[Complex32], freq_out: &mut [Complex32]) -> Result<(), Refusal> {
-        let answer = call::mapper_map_symbol(self.state, floats(data), floats_mut(freq_out));
+        let answer = call::scattered_pilot_mapper_map_symbol(self.state, floats(data), floats_mut(freq_out));
         self.state = answer.mapper;
         accepted(answer.number, ())
     }
@@ -72,7 +72,7 @@ pub struct ScatteredPilotExtractor {
 impl ScatteredPilotExtractor {
     /// An extractor in phase 0; the guard interval plays no part in the grid.
     pub fn new(_guard: GuardInterval) -> Self {
-        Self { state: call::extractor_new() }
+        Self { state: call::scattered_pilot_extractor_new() }
     }
 
     /// The data carriers of a symbol, 1,512.
@@ -87,12 +87,12 @@ impl ScatteredPilotExtractor {
 
     /// Goes back to phase 0.
     pub fn reset(&mut self) {
-        self.state = call::extractor_reset(self.state);
+        self.state = call::scattered_pilot_extractor_reset(self.state);
     }
 
     /// The phase of the next symbol, 0 to 3.
     pub fn phase(&self) -> usize {
-        call::extractor_phase(self.state)
+        call::scattered_pilot_extractor_phase(self.state)
     }
 
     /// The bins and values of the next symbol's reference pilots, as [`reference_pilot_bins`](crate::waveform::dvb_t::reference_pilot_bins) gives them.
@@ -105,7 +105,7 @@ impl ScatteredPilotExtractor {
 
     /// [`current_pilot_bins`](Self::current_pilot_bins) into two lent outputs; gives 176, or [`Refusal::OutputShort`].
     pub fn current_pilot_bins_into(&self, bins: &mut [Bin], values: &mut [Complex32]) -> Result<usize, Refusal> {
-        count_of(call::extractor_current_pilot_bins(self.state, bins_mut(bins), floats_mut(values)))
+        count_of(call::scattered_pilot_extractor_current_pilot_bins(self.state, bins_mut(bins), floats_mut(values)))
     }
 
     /// The bins of the next symbol's data carriers, as [`data_bins`](crate::waveform::dvb_t::data_bins) gives them.
@@ -117,13 +117,13 @@ impl ScatteredPilotExtractor {
 
     /// [`data_bins`](Self::data_bins) into a lent output; gives 1,512, or [`Refusal::OutputShort`].
     pub fn data_bins_into(&self, out: &mut [Bin]) -> Result<usize, Refusal> {
-        count_of(call::extractor_data_bins(self.state, bins_mut(out)))
+        count_of(call::scattered_pilot_extractor_data_bins(self.state, bins_mut(out)))
     }
 
     /// Reads the 1,512 data cells of a symbol, in rising active order. Refusals: [`Refusal::Length`] for fewer than 2,048 cells, then
     /// [`Refusal::OutputShort`].
     pub fn extract_symbol(&mut self, freq: &[Complex32], data_out: &mut [Complex32]) -> Result<(), Refusal> {
-        let answer = call::extractor_extract_symbol(self.state, floats(freq), floats_mut(data_out));
+        let answer = call::scattered_pilot_extractor_extract_symbol(self.state, floats(freq), floats_mut(data_out));
         self.state = answer.extractor;
         accepted(answer.number, ())
     }
@@ -132,7 +132,7 @@ impl ScatteredPilotExtractor {
 // ---- the static grid
 
 /// The data carriers of the static grid.
-pub const STATIC_DATA_CARRIERS: usize = 1660;
+pub const STATIC_DATA_CARRIERS: usize = SALT_STATIC_DATA_CELLS;
 
 /// The cells that a call of the static grid read and wrote.
 #[derive(Clone, Copy, Debug, Default, PartialEq, Eq)]

@@ -1,39 +1,79 @@
-//! The library's C interface, declared: the same types and functions as in `include/saltkernel.h`, which says what each does.
-//! `tests/declarations` holds both to the proved source.
+//! The library's C interface, declared as in `include/saltkernel.h`, which says what each part is.
+//! `include/generate` makes this file from crates/saltkernel: change it there.
 
-// ---- answers that more than one group has
+// ---- Refusals
 
-#[repr(C)]
-#[derive(Clone, Copy)]
-pub struct SaltCounted {
-    pub number: u8,
-    pub count: usize,
+pub const SALT_LENGTH: u8 = 1;
+pub const SALT_NOT_A_BIT: u8 = 2;
+pub const SALT_OUTPUT_SHORT: u8 = 3;
+pub const SALT_NO_WORD: u8 = 4;
+pub const SALT_RESERVED: u8 = 5;
+pub const SALT_FULL: u8 = 6;
+pub const SALT_EMPTY: u8 = 7;
+pub const SALT_INCOMPLETE: u8 = 8;
+pub const SALT_BAD_LINE: u8 = 9;
+
+// ---- Sizes
+
+#[allow(dead_code)]
+mod sizes {
+    pub const SALT_PACKET_BYTES: usize = 188;
+    pub const SALT_PAYLOAD_BYTES: usize = 187;
+    pub const SALT_SYNC_BYTE: u8 = 0x47;
+    pub const SALT_GROUP_PACKETS: usize = 8;
+    pub const SALT_SOFT_VALUES: usize = 6;
+    pub const SALT_SYMBOL_CELLS: usize = 2048;
+    pub const SALT_SYMBOL_FLOATS: usize = 4096;
+    pub const SALT_DATA_CELLS: usize = 1512;
+    pub const SALT_DATA_FLOATS: usize = 3024;
+    pub const SALT_STATIC_DATA_CELLS: usize = 1660;
+    pub const SALT_STATIC_DATA_FLOATS: usize = 3320;
+    pub const SALT_REFERENCE_PILOTS: usize = 176;
+    pub const SALT_REFERENCE_FLOATS: usize = 352;
+    pub const SALT_SCATTERED_PHASES: usize = 4;
+    pub const SALT_SCATTERED_MOST: usize = 143;
+    pub const SALT_CONTINUAL_CARRIERS: usize = 45;
+    pub const SALT_TPS_CARRIERS: usize = 17;
+    pub const SALT_TPS_FLOATS: usize = 34;
+    pub const SALT_ACTIVE_CARRIERS: usize = 1705;
+    pub const SALT_SIGNED_LAST: usize = 852;
+    pub const SALT_TPS_INFORMATION_BITS: usize = 53;
+    pub const SALT_TPS_CODEWORD_BITS: usize = 67;
+    pub const SALT_TPS_WORD_BITS: usize = 68;
+    pub const SALT_JOURNAL_FLOATS: usize = 2312;
+    pub const SALT_LINE_DIGITS: usize = 17;
+    pub const SALT_HEADING_BYTES: usize = 34;
+    pub const SALT_LINE_ROOM: usize = 60;
+    pub const SALT_CLOSE_ROOM: usize = 120;
 }
+pub use sizes::*;
+
+// ---- Cells
 
 #[repr(C)]
-#[derive(Clone, Copy, Debug)]
+#[derive(Clone, Copy, Debug, PartialEq)]
 pub struct SaltCell {
     pub re: f32,
     pub im: f32,
-}
-
-#[repr(C)]
-#[derive(Clone, Copy)]
-pub struct SaltMapped {
-    pub number: u8,
-    pub point: SaltCell,
 }
 
 extern "C" {
     pub fn salt_cell_same(cell: SaltCell, other: SaltCell) -> u8;
 }
 
-// ---- transport packets
+// ---- Transport packets, and energy dispersal over them (4.3.1)
 
 #[repr(C)]
-#[derive(Clone, Copy)]
+#[derive(Clone, Copy, Debug, PartialEq, Eq)]
+pub struct SaltCounted {
+    pub number: u8,
+    pub count: usize,
+}
+
+#[repr(C)]
+#[derive(Clone, Copy, Debug, PartialEq, Eq)]
 pub struct SaltPacket {
-    pub bytes: [u8; 188],
+    pub bytes: [u8; SALT_PACKET_BYTES],
 }
 
 extern "C" {
@@ -41,9 +81,10 @@ extern "C" {
     pub fn salt_ts_depacketize(packets: *const u8, packets_length: usize, out: *mut u8, out_length: usize) -> SaltCounted;
     pub fn salt_ts_null_packet() -> SaltPacket;
     pub fn salt_ts_stuff_null_packets(ts: *mut u8, ts_length: usize, used: usize, target: usize) -> SaltCounted;
+    pub fn salt_ts_energy_disperse(packets: *mut u8, packets_length: usize) -> SaltCounted;
 }
 
-// ---- energy dispersal
+// ---- The whitener of energy dispersal (4.3.1)
 
 #[repr(C)]
 #[derive(Clone, Copy, Debug, PartialEq, Eq)]
@@ -52,14 +93,13 @@ pub struct SaltDvbTEnergyDispersal {
 }
 
 #[repr(C)]
-#[derive(Clone, Copy)]
+#[derive(Clone, Copy, Debug, PartialEq, Eq)]
 pub struct SaltFed {
     pub whitener: SaltDvbTEnergyDispersal,
     pub answer: SaltCounted,
 }
 
 extern "C" {
-    pub fn salt_ts_energy_disperse(packets: *mut u8, packets_length: usize) -> SaltCounted;
     pub fn salt_dvb_t_energy_dispersal_new() -> SaltDvbTEnergyDispersal;
     pub fn salt_dvb_t_energy_dispersal_reset(whitener: SaltDvbTEnergyDispersal) -> SaltDvbTEnergyDispersal;
     pub fn salt_dvb_t_energy_dispersal_advance_byte(whitener: SaltDvbTEnergyDispersal) -> SaltDvbTEnergyDispersal;
@@ -73,14 +113,21 @@ extern "C" {
     ) -> SaltFed;
 }
 
-// ---- Gray mapping
+// ---- Gray mapping, hard and soft demapping (4.3.5)
 
 #[repr(C)]
-#[derive(Clone, Copy)]
+#[derive(Clone, Copy, Debug, PartialEq)]
+pub struct SaltMapped {
+    pub number: u8,
+    pub point: SaltCell,
+}
+
+#[repr(C)]
+#[derive(Clone, Copy, Debug, PartialEq)]
 pub struct SaltSoft {
     pub number: u8,
     pub count: usize,
-    pub values: [f32; 6],
+    pub values: [f32; SALT_SOFT_VALUES],
 }
 
 extern "C" {
@@ -89,32 +136,32 @@ extern "C" {
     pub fn salt_dvb_t_soft_llr(sym: SaltCell, v: usize) -> SaltSoft;
 }
 
-// ---- carriers and pilots
+// ---- Carriers and pilots (4.5)
 
 #[repr(C)]
-#[derive(Clone, Copy)]
-pub struct SaltCarrier {
-    pub number: u8,
-    pub index: u16,
-}
-
-#[repr(C)]
-#[derive(Clone, Copy)]
+#[derive(Clone, Copy, Debug, PartialEq, Eq)]
 pub struct SaltSigned {
     pub number: u8,
     pub index: i16,
 }
 
 #[repr(C)]
-#[derive(Clone, Copy)]
-pub struct SaltContinual {
-    pub carriers: [u16; 45],
+#[derive(Clone, Copy, Debug, PartialEq, Eq)]
+pub struct SaltCarrier {
+    pub number: u8,
+    pub index: u16,
 }
 
 #[repr(C)]
-#[derive(Clone, Copy)]
+#[derive(Clone, Copy, Debug, PartialEq, Eq)]
+pub struct SaltContinual {
+    pub carriers: [u16; SALT_CONTINUAL_CARRIERS],
+}
+
+#[repr(C)]
+#[derive(Clone, Copy, Debug, PartialEq, Eq)]
 pub struct SaltTps {
-    pub carriers: [u16; 17],
+    pub carriers: [u16; SALT_TPS_CARRIERS],
 }
 
 extern "C" {
@@ -133,7 +180,7 @@ extern "C" {
     pub fn salt_reference_pilot_bins(phase: usize, bins: *mut u16, bins_length: usize, values: *mut f32, values_length: usize) -> SaltCounted;
 }
 
-// ---- symbols
+// ---- Symbols from data cells, and data cells from symbols (4.5)
 
 #[repr(C)]
 #[derive(Clone, Copy, Debug, PartialEq, Eq)]
@@ -143,19 +190,19 @@ pub struct SaltScatteredPilotMapper {
 
 #[repr(C)]
 #[derive(Clone, Copy, Debug, PartialEq, Eq)]
-pub struct SaltScatteredPilotExtractor {
-    pub phase: usize,
-}
-
-#[repr(C)]
-#[derive(Clone, Copy)]
 pub struct SaltMapAnswer {
     pub number: u8,
     pub mapper: SaltScatteredPilotMapper,
 }
 
 #[repr(C)]
-#[derive(Clone, Copy)]
+#[derive(Clone, Copy, Debug, PartialEq, Eq)]
+pub struct SaltScatteredPilotExtractor {
+    pub phase: usize,
+}
+
+#[repr(C)]
+#[derive(Clone, Copy, Debug, PartialEq, Eq)]
 pub struct SaltExtractAnswer {
     pub number: u8,
     pub extractor: SaltScatteredPilotExtractor,
@@ -193,17 +240,17 @@ extern "C" {
     pub fn salt_grid_extract(symbol: *const f32, symbol_length: usize, out: *mut f32, out_length: usize) -> SaltCounted;
 }
 
-// ---- the code of the TPS words
+// ---- The code of the TPS words (4.6.2.11)
 
 extern "C" {
     pub fn salt_tps_bch_encode(info: *const u8, info_length: usize, out: *mut u8, out_length: usize) -> SaltCounted;
     pub fn salt_tps_bch_decode(code: *const u8, code_length: usize, out: *mut u8, out_length: usize) -> SaltCounted;
 }
 
-// ---- the TPS word
+// ---- The TPS word (4.6.2)
 
 #[repr(C)]
-#[derive(Clone, Copy, PartialEq)]
+#[derive(Clone, Copy, Debug, PartialEq, Eq)]
 pub struct SaltTpsWord {
     pub frame_number: u8,
     pub constellation: u8,
@@ -213,7 +260,7 @@ pub struct SaltTpsWord {
 }
 
 #[repr(C)]
-#[derive(Clone, Copy, PartialEq)]
+#[derive(Clone, Copy, Debug, PartialEq, Eq)]
 pub struct SaltUnpacked {
     pub number: u8,
     pub word: SaltTpsWord,
@@ -224,24 +271,24 @@ extern "C" {
     pub fn salt_tps_word_unpack(bits: *const u8, bits_length: usize) -> SaltUnpacked;
 }
 
-// ---- the TPS frame, sent and received
+// ---- The TPS frame, sent and received (4.6.3)
 
 #[repr(C)]
-#[derive(Clone, Copy, Debug)]
+#[derive(Clone, Copy, Debug, PartialEq)]
 pub struct SaltTpsEncoder {
     pub signs: [f32; 17],
     pub started: bool,
 }
 
 #[repr(C)]
-#[derive(Clone, Copy)]
+#[derive(Clone, Copy, Debug, PartialEq)]
 pub struct SaltSent {
     pub answer: SaltCounted,
     pub encoder: SaltTpsEncoder,
 }
 
 #[repr(C)]
-#[derive(Clone, Copy, Debug)]
+#[derive(Clone, Copy, Debug, PartialEq)]
 pub struct SaltTpsDecoder {
     pub prev: [SaltCell; 17],
     pub bits: [u8; 68],
@@ -249,7 +296,7 @@ pub struct SaltTpsDecoder {
 }
 
 #[repr(C)]
-#[derive(Clone, Copy)]
+#[derive(Clone, Copy, Debug, PartialEq)]
 pub struct SaltTpsFed {
     pub number: u8,
     pub bit: u8,
@@ -257,7 +304,7 @@ pub struct SaltTpsFed {
 }
 
 #[repr(C)]
-#[derive(Clone, Copy)]
+#[derive(Clone, Copy, Debug, PartialEq, Eq)]
 pub struct SaltTpsBit {
     pub number: u8,
     pub bit: u8,
@@ -276,10 +323,10 @@ extern "C" {
     pub fn salt_tps_decoder_word(decoder: SaltTpsDecoder) -> SaltUnpacked;
 }
 
-// ---- the receive session
+// ---- The receive session
 
 #[repr(C)]
-#[derive(Clone, Copy, Debug)]
+#[derive(Clone, Copy, Debug, PartialEq)]
 pub struct SaltSession {
     pub prev: [SaltCell; 17],
     pub bits: [u8; 68],
@@ -287,7 +334,7 @@ pub struct SaltSession {
 }
 
 #[repr(C)]
-#[derive(Clone, Copy)]
+#[derive(Clone, Copy, Debug, PartialEq)]
 pub struct SaltSessionFed {
     pub number: u8,
     pub bit: u8,
@@ -295,7 +342,7 @@ pub struct SaltSessionFed {
 }
 
 #[repr(C)]
-#[derive(Clone, Copy)]
+#[derive(Clone, Copy, Debug, PartialEq)]
 pub struct SaltSessionStepped {
     pub number: u8,
     pub session: SaltSession,
@@ -316,20 +363,12 @@ extern "C" {
     pub fn salt_session_step_back(session: SaltSession, journal: *const f32, journal_length: usize) -> SaltSessionStepped;
     pub fn salt_session_phase(session: SaltSession) -> usize;
     pub fn salt_session_word(session: SaltSession) -> SaltUnpacked;
-    pub fn salt_session_run(
-        script: *const u8,
-        script_length: usize,
-        symbols: *const f32,
-        symbols_length: usize,
-        journal: *mut f32,
-        journal_length: usize,
-    ) -> SaltSession;
 }
 
-// ---- the report
+// ---- The report on received words
 
 #[repr(C)]
-#[derive(Clone, Copy, Debug)]
+#[derive(Clone, Copy, Debug, PartialEq, Eq)]
 pub struct SaltReader {
     pub held: [u8; 17],
     pub count: usize,
@@ -338,7 +377,7 @@ pub struct SaltReader {
 }
 
 #[repr(C)]
-#[derive(Clone, Copy)]
+#[derive(Clone, Copy, Debug, PartialEq, Eq)]
 pub struct SaltReaderFed {
     pub answer: SaltCounted,
     pub reader: SaltReader,
@@ -352,3 +391,15 @@ extern "C" {
     pub fn salt_reader_feed(reader: SaltReader, part: *const u8, part_length: usize, out: *mut u8, out_length: usize) -> SaltReaderFed;
     pub fn salt_reader_close(reader: SaltReader, out: *mut u8, out_length: usize) -> SaltCounted;
 }
+
+// ---- The layout
+
+extern "C" {
+    pub fn salt_layout_0d3eb915() -> u32;
+}
+
+/// Refers to the layout, so that nothing links with an archive of another one; it is called as a program starts, since
+/// a linker drops nothing of what is.
+#[used]
+#[link_section = ".init_array"]
+static LAYOUT: unsafe extern "C" fn() -> u32 = salt_layout_0d3eb915;

@@ -3,14 +3,14 @@
 use crate::call;
 use crate::packets::count_of;
 use crate::refusal::{accepted, Refusal};
-use crate::sys::{SaltTpsWord, SaltUnpacked};
+use crate::sys::{SaltTpsWord, SaltUnpacked, SALT_TPS_CODEWORD_BITS, SALT_TPS_INFORMATION_BITS};
 
 /// The bits of a codeword.
-pub const TPS_CODEWORD_BITS: usize = 67;
+pub const TPS_CODEWORD_BITS: usize = SALT_TPS_CODEWORD_BITS;
 /// The information bits of a codeword.
-pub const TPS_INFO_BITS: usize = 53;
+pub const TPS_INFO_BITS: usize = SALT_TPS_INFORMATION_BITS;
 /// The parity bits of a codeword.
-pub const TPS_PARITY_BITS: usize = 14;
+pub const TPS_PARITY_BITS: usize = TPS_CODEWORD_BITS - TPS_INFO_BITS;
 
 /// The codeword of 53 information bits: these, then 14 bits of parity. Refusals: [`Refusal::Length`], then [`Refusal::NotABit`].
 ///

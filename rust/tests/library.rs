@@ -305,21 +305,6 @@ fn a_session_steps_back_to_where_it_was() {
     assert_eq!((session.step_back(), copy.word()), (Err(Refusal::Empty), Ok(WORD)));
 }
 
-#[test]
-fn a_script_runs_as_its_calls() {
-    let symbols = cells(3 * 2048);
-    let mut session = Session::new();
-    let mut out = vec![ZERO; 1512];
-    for symbol in [0, 1, 2] {
-        session.feed(&symbols[2048 * symbol..], &mut out).unwrap();
-    }
-    session.step_back().unwrap();
-    let run = Session::run(&[1, 255, 254, 0, 3, 1, 2, 254], &symbols);
-    assert_eq!((run.bits(), run.phase()), (session.bits(), 2));
-    assert_eq!(format!("{run:?}"), format!("{session:?}"));
-    assert_eq!(Session::run(&[], &[]).bits(), []);
-}
-
 /// The line of a word.
 fn line_of(word: TpsWord) -> Vec<u8> {
     word.pack().chunks(4).map(|bits| b"0123456789abcdef"[bits.iter().fold(0, |digit, bit| 2 * digit + usize::from(*bit))]).collect()

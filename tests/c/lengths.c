@@ -93,16 +93,6 @@ static uint8_t session_step_back(const Lent *lent) {
     return salt_session_step_back(session, AT(0)).number;
 }
 
-/* A script's session has no number: 1 where a symbol that was fed doesn't stand. */
-static uint8_t run_one(const Lent *lent) {
-    const uint8_t script = 0;
-    return salt_session_run(&script, 1, AT(0), AT(1)).count != 1;
-}
-static uint8_t run_all(const Lent *lent) {
-    static float symbol[SALT_SYMBOL_FLOATS], journal[SALT_JOURNAL_FLOATS];
-    return salt_session_run(AT(0), symbol, SALT_SYMBOL_FLOATS, journal, SALT_JOURNAL_FLOATS).count != lent->length;
-}
-
 /* Functions of the report. A line is of digits. */
 static uint8_t read_line(const Lent *lent) {
     memset(lent->at, '0', lent->length);
@@ -153,8 +143,6 @@ static const Function functions[] = {
     {"TpsDecoder::bits, 68", bits_of_frame, {{1, SALT_TPS_WORD_BITS, FRONT, OUTPUT}}},
     {"Session::feed", session_feed, {{4, SALT_SYMBOL_FLOATS, READ, AT_LEAST}, {4, SALT_DATA_FLOATS, FRONT, OUTPUT}, {4, SALT_JOURNAL_FLOATS, FRONT, OUTPUT}}},
     {"Session::step_back", session_step_back, {{4, SALT_JOURNAL_FLOATS, READ, OUTPUT}}},
-    {"script::run, one feed", run_one, {{4, SALT_SYMBOL_FLOATS, READ, AT_LEAST}, {4, SALT_JOURNAL_FLOATS, FRONT, AT_LEAST}}},
-    {"script::run, the script", run_all, {{1, 5, READ, ANY}}},
     {"read_line", read_line, {{1, SALT_LINE_DIGITS, READ, {SALT_BAD_LINE, SALT_BAD_LINE, SALT_BAD_LINE, SALT_ACCEPTED, SALT_BAD_LINE}}}},
     {"put_heading", put_heading, {{1, SALT_HEADING_BYTES, FRONT, OUTPUT}}},
     {"put_line", put_line, {{1, SALT_LINE_ROOM, FRONT, OUTPUT}}},

@@ -2,6 +2,17 @@
 #include "check.h"
 
 #include <stdio.h>
+#include <string.h>
+
+#define TEXT(name) #name
+#define TEXT_OF(macro) TEXT(macro)
+
+/* The symbol of the layout is named after its number. */
+static void test_layout(void) {
+    char name[sizeof TEXT_OF(SALT_LAYOUT)];
+    snprintf(name, sizeof name, "salt_layout_%08x", (unsigned)SALT_LAYOUT());
+    CHECK(strcmp(name, TEXT_OF(SALT_LAYOUT)) == 0);
+}
 
 static const struct {
     const char *name;
@@ -10,7 +21,7 @@ static const struct {
     {"packets", test_packets}, {"whitener", test_whitener}, {"constellation", test_constellation},
     {"pilots", test_pilots},   {"symbols", test_symbols},   {"codes", test_codes},
     {"words", test_words},     {"frames", test_frames},     {"session", test_session},
-    {"reports", test_reports}, {"lengths", test_lengths},
+    {"reports", test_reports}, {"lengths", test_lengths}, {"layout", test_layout},
 };
 
 int main(void) {

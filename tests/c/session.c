@@ -90,13 +90,6 @@ static void full(Lent *journal) {
     CHECK(same_session(&session, &before[0]));
 }
 
-/* A script is its calls in turn: what is fed before a reset or taken back doesn't stand, and a refused call changes nothing. */
-static void run_script(Lent *journal) {
-    static const uint8_t script[] = {1, 255, 254, 0, 1, 2, 254, 253};
-    SaltSession session = salt_session_run(script, sizeof script, symbols[0], 3 * SALT_SYMBOL_FLOATS, journal->at, journal->length);
-    CHECK(same_session(&session, &before[2]));
-}
-
 /* Cells are the same by their bits, any NaN counting as any other. */
 static void same_cells(void) {
     const SaltCell zero = {0.0f, 0.0f}, minus = {0.0f, -0.0f}, nan = {NAN, 1.0f}, other = {-NAN, 1.0f};
@@ -110,7 +103,6 @@ void test_session(void) {
     feed_all(&journal);
     back_to_the_start(&journal);
     full(&journal);
-    run_script(&journal);
     same_cells();
     give_back(&journal);
 }

@@ -1,26 +1,28 @@
--- Two results that meet the decoder's promise are equal, and so are two that meet the encoder's: the codeword within distance two is the only one.
--- So an encoding with at most two bits wrong is decoded to its information.
--- Assumes nothing.
+-- Two results that meet the decoder's promise are equal, and so are two that meet the encoder's: the codeword within
+-- distance two is the only one. So an encoding with at most two bits wrong is decoded to its information, and the
+-- answer as a function meets the promise. Assumes nothing.
 use mathlib.Core.Path.{_≡_, refl, sym, ap, _∙_, subst}
 use mathlib.Core.Logic.{inl, inr}
-use mathlib.Core.Bool.{Bool, true, false}
-use mathlib.Core.List.{List}
+use mathlib.Core.Bool.{Bool, true, false, not}
+use mathlib.Core.List.{List, [], _∷_}
 use Prim.Native.Nat.{ℕ, zero, _≤_}
 use lib.Dec.{eqb, ltb}
 use lib.ListN.{length, take}
 use lib.Seq.{take-at}
 use borrow.Author.Tests.{eqb-true}
-use Rattle.ground.specs.Refusal.{ACCEPTED, LENGTH, NOT-A-BIT, OUTPUT-SHORT, NO-WORD}
-use Rattle.ground.specs.Answer.{pick, counted, written}
+use Rattle.ground.specs.Refusal.{ACCEPTED, LENGTH, NOT-A-BIT, OUTPUT-SHORT, NO-WORD, _gives_, firstOf}
+use Rattle.ground.specs.Answer.{counted, kept, written}
 use Rattle.ground.specs.declared.Counted.{Counted}
 use Rattle.ground.specs.Bits.{Bits, areBits}
 use Rattle.ground.specs.Digits.{digitsOf}
 use Rattle.ground.proofs.Bits.{bits-of, are-bits}
-use Rattle.bch.specs.Code.{Codeword, distance, parity, encode}
-use Rattle.bch.specs.Promise.{encodeAnswer, encodeLeaves, Corrected, Refuses, Lone, Answers, Decodes}
+use Rattle.bch.specs.Code.{parity, encode, Codeword, distance, Lone}
+use Rattle.bch.specs.NearCodeword.{Near, nearOf, isNone, informationIn, found, none}
+use Rattle.bch.specs.Promise.{encodeAnswer, encodeLeaves, Corrected, Refuses, Answers, Decodes, decodeAnswer, decodeLeaves}
 use Rattle.bch.proofs.Distance.{unique}
-use Rattle.bch.proofs.Encoding.{encode-codeword}
-use Rattle.bch.proofs.Answering.{accepted}
+use Rattle.bch.proofs.Codeword.{encode-codeword}
+use Rattle.bch.proofs.NearCodeword.{near-found, near-none}
+use Rattle.bch.proofs.Answer.{accepted}
 
 refused-same : (k₀ : ℕ) (o a b : List ℕ) (r q : Counted) → Refuses k₀ o r a → Refuses k₀ o q b → (r ≡ q) × (a ≡ b)
 refused-same k₀ o a b r q h k = (h .answers ∙ sym (k .answers), h .leaves ∙ sym (k .leaves))
@@ -40,18 +42,20 @@ module _ (w o a b : List ℕ) (r q : Counted) (hb : Bits w) (hl : length w ≡ 6
   answers-same (inr h) (inl k) = absurd (h .0 (k .word) (k .codeword) (k .near))
   answers-same (inr h) (inr k) = refused-same NO-WORD o a b r q (h .1) (k .1)
 
-by-tests : (w o a b : List ℕ) (r q : Counted) (x y z : Bool) → eqb (length w) 67 ≡ x → areBits w ≡ y
-    → Answers (pick x (pick y (pick z OUTPUT-SHORT ACCEPTED) NOT-A-BIT) LENGTH) w o r a
-    → Answers (pick x (pick y (pick z OUTPUT-SHORT ACCEPTED) NOT-A-BIT) LENGTH) w o q b
-    → (r ≡ q) × (a ≡ b)
-by-tests w o a b r q true true true ex ey h k = refused-same OUTPUT-SHORT o a b r q h k
-by-tests w o a b r q true true false ex ey h k = answers-same w o a b r q (bits-of w ey) (eqb-true (length w) 67 ex) h k
-by-tests w o a b r q true false z ex ey h k = refused-same NOT-A-BIT o a b r q h k
-by-tests w o a b r q false y z ex ey h k = refused-same LENGTH o a b r q h k
+-- the number of a call by the outcomes of its tests
+abbrev numberBy : Bool → Bool → Bool → ℕ
+numberBy x y z = firstOf (not x gives LENGTH ∷ not y gives NOT-A-BIT ∷ z gives OUTPUT-SHORT ∷ [])
+
+determined-by-tests : (w o a b : List ℕ) (r q : Counted) (x y z : Bool) → eqb (length w) 67 ≡ x → areBits w ≡ y
+    → Answers (numberBy x y z) w o r a → Answers (numberBy x y z) w o q b → (r ≡ q) × (a ≡ b)
+determined-by-tests w o a b r q true true true ex ey h k = refused-same OUTPUT-SHORT o a b r q h k
+determined-by-tests w o a b r q true true false ex ey h k = answers-same w o a b r q (bits-of w ey) (eqb-true (length w) 67 ex) h k
+determined-by-tests w o a b r q true false z ex ey h k = refused-same NOT-A-BIT o a b r q h k
+determined-by-tests w o a b r q false y z ex ey h k = refused-same LENGTH o a b r q h k
 
 -- of 67 bits w and an output that holds o: two answers with what they leave, each as the decoder promises, are equal
 pub decode-determined : (w o a b : List ℕ) (r q : Counted) → Decodes w o r a → Decodes w o q b → (r ≡ q) × (a ≡ b)
-decode-determined w o a b r q h k = by-tests w o a b r q (eqb (length w) 67) (areBits w) (ltb (length o) 53) refl refl h k
+decode-determined w o a b r q h k = determined-by-tests w o a b r q (eqb (length w) 67) (areBits w) (ltb (length o) 53) refl refl h k
 
 pub encode-determined : (info o a b : List ℕ) (r q : Counted) → r ≡ encodeAnswer info o → a ≡ encodeLeaves info o
     → q ≡ encodeAnswer info o → b ≡ encodeLeaves info o → (r ≡ q) × (a ≡ b)
@@ -60,26 +64,54 @@ encode-determined info o a b r q er ea eq eb = (er ∙ sym eq, ea ∙ sym eb)
 -- ---- what the promise says of 67 bits with room for the information
 
 module _ (w o a : List ℕ) (r : Counted) (hb : Bits w) (hl : length w ≡ 67) (room : 53 ≤ length o) (h : Decodes w o r a) where
-  given : Answers zero w o r a
-  given = subst (λ (k : ℕ). Answers k w o r a) (accepted 67 53 w o hl (are-bits w hb) room) h
+  answered : Answers zero w o r a
+  answered = subst (λ (k : ℕ). Answers k w o r a) (accepted 67 53 w o hl (are-bits w hb) room) h
 
-  near-by : (c : List ℕ) → Codeword c → distance c w ≤ 2 → Answers zero w o r a → (r ≡ counted ACCEPTED 53) × (a ≡ written (take 53 c) o)
-  near-by c hc hd (inl k) = (
+  near-answered : (c : List ℕ) → Codeword c → distance c w ≤ 2 → Answers zero w o r a → (r ≡ counted ACCEPTED 53) × (a ≡ written (take 53 c) o)
+  near-answered c hc hd (inl k) = (
     k .answers,
     k .leaves ∙ ap (λ (x : List ℕ). written (take 53 x) o) (unique (k .word) c w (k .codeword) hc hb hl (k .near) hd),
   )
-  near-by c hc hd (inr k) = absurd (k .0 c hc hd)
+  near-answered c hc hd (inr k) = absurd (k .0 c hc hd)
 
   -- an encoding with at most two bits wrong is decoded to its information
   pub corrects : (info : List ℕ) → Bits info → length info ≡ 53 → distance (encode info) w ≤ 2 → (r ≡ counted ACCEPTED 53) × (a ≡ written info o)
   corrects info hi li hd =
-      let t = near-by (encode info) (encode-codeword info hi li) hd given in
+      let t = near-answered (encode info) (encode-codeword info hi li) hd answered in
       (t .0, t .1 ∙ ap (λ (x : List ℕ). written x o) (take-at info (digitsOf 14 (parity info)) 53 li))
 
-  alone : Lone w → Answers zero w o r a → (r ≡ counted NO-WORD 53) × (a ≡ o)
-  alone n (inl k) = absurd (n (k .word) (k .codeword) (k .near))
-  alone n (inr k) = (k .1 .answers, k .1 .leaves)
+  lone-answered : Lone w → Answers zero w o r a → (r ≡ counted NO-WORD 53) × (a ≡ o)
+  lone-answered n (inl k) = absurd (n (k .word) (k .codeword) (k .near))
+  lone-answered n (inr k) = (k .1 .answers, k .1 .leaves)
 
   -- and where no codeword is within distance two, NO WORD
   pub refuses : Lone w → (r ≡ counted NO-WORD 53) × (a ≡ o)
-  refuses n = alone n given
+  refuses n = lone-answered n answered
+
+-- ---- the decoder as a function
+
+abbrev nearNo : Near → ℕ
+nearNo n = firstOf (isNone n gives NO-WORD ∷ [])
+
+module _ (w o : List ℕ) where
+  near-answers : Bits w → length w ≡ 67 → (n : Near) → nearOf w ≡ n
+      → Answers zero w o (counted (nearNo n) 53) (kept (nearNo n) (written (informationIn n) o) o)
+  near-answers hb hl (found c) e =
+      let t = near-found w c e in inl record { word = c; codeword = t .0; near = t .1; answers = refl; leaves = refl }
+  near-answers hb hl none e = inr (near-none w hb hl e, record { answers = refl; leaves = refl })
+
+  decodes-by : (x y z : Bool) → eqb (length w) 67 ≡ x → areBits w ≡ y
+      → (let all : ℕ = firstOf (not x gives LENGTH ∷ not y gives NOT-A-BIT ∷ z gives OUTPUT-SHORT ∷ isNone (nearOf w) gives NO-WORD ∷ []) in
+      Answers (numberBy x y z) w o (counted all 53) (kept all (written (informationIn (nearOf w)) o) o))
+  decodes-by true true true ex ey = record { answers = refl; leaves = refl }
+  decodes-by true true false ex ey = near-answers (bits-of w ey) (eqb-true (length w) 67 ex) (nearOf w) refl
+  decodes-by true false z ex ey = record { answers = refl; leaves = refl }
+  decodes-by false y z ex ey = record { answers = refl; leaves = refl }
+
+  -- the function's answer meets the promise, for every input
+  pub decode-answers : Decodes w o (decodeAnswer w o) (decodeLeaves w o)
+  decode-answers = decodes-by (eqb (length w) 67) (areBits w) (ltb (length o) 53) refl refl
+
+  -- and what meets the promise is the function's answer
+  pub decode-is : (r : Counted) (a : List ℕ) → Decodes w o r a → (r ≡ decodeAnswer w o) × (a ≡ decodeLeaves w o)
+  decode-is r a h = decode-determined w o a (decodeLeaves w o) r (decodeAnswer w o) h decode-answers

@@ -9,14 +9,13 @@ use Rattle.ground.specs.Answer.{counted}
 use Rattle.ground.specs.declared.Counted.{Counted}
 use Rattle.ground.specs.Bits.{Bits}
 use Rattle.ground.proofs.Bits.{zeros-bits, bits-append}
-use Rattle.bch.specs.Poly.{divisionStep}
-use Rattle.bch.specs.Code.{remainderOf, parity}
-use Rattle.bch.specs.Field.{timesX}
-use Rattle.bch.specs.Promise.{Lone, Decodes}
-use Rattle.bch.specs.Search.{syn1}
-use Rattle.bch.proofs.Mending.{none-near}
+use Rattle.bch.specs.Polynomial.{divisionStep}
+use Rattle.bch.specs.Code.{remainderOf, parity, Lone}
+use Rattle.bch.specs.Field.{timesX, syndrome1}
+use Rattle.bch.specs.Promise.{Decodes}
+use Rattle.bch.proofs.Pattern.{zero-syndrome-no-pattern}
+use Rattle.bch.proofs.Mended.{no-pattern-lone}
 use Rattle.bch.proofs.Determined.{refuses}
-use Rattle.bch.proofs.Wrong.{lone}
 
 -- (4) zero information has zero parity
 pub zero-parity : parity (replicate 53 0) ≡ 0
@@ -32,19 +31,19 @@ last-parity = refl
 abbrev pub three : List ℕ
 three = replicate 59 0 ++ 1 ∷ 0 ∷ 0 ∷ 0 ∷ 1 ∷ 0 ∷ 0 ∷ 1 ∷ []
 
-three-rem : remainderOf 0 three ≡ 0x89
+three-remainder : remainderOf 0 three ≡ 0x89
 unfolding divisionStep
-three-rem = refl
+three-remainder = refl
 
 three-bits : Bits three
 three-bits = bits-append (replicate 59 0) (1 ∷ 0 ∷ 0 ∷ 0 ∷ 1 ∷ 0 ∷ 0 ∷ 1 ∷ []) (zeros-bits 59) (omega arith)
 
-three-syn1 : syn1 0x89 ≡ 0
-unfolding divisionStep timesX syn1
-three-syn1 = refl
+three-syndrome1 : syndrome1 0x89 ≡ 0
+unfolding divisionStep timesX syndrome1
+three-syndrome1 = refl
 
-three-lone : Lone three
-three-lone = none-near three three-bits refl (λ ps i l e. lone 0x89 three-syn1 (omega arith) ps i l (e ∙ three-rem))
+pub three-lone : Lone three
+three-lone = no-pattern-lone three three-bits refl (λ ps i l e. zero-syndrome-no-pattern 0x89 three-syndrome1 (omega arith) ps i l (e ∙ three-remainder))
 
 -- (6) bits with only the degrees 7, 3 and 0 set are NO WORD
 pub three-no-word : (o a : List ℕ) (r : Counted) → 53 ≤ length o → Decodes three o r a → (r ≡ counted NO-WORD 53) × (a ≡ o)

@@ -1,13 +1,13 @@
--- Horner's rule at a point whose product is additive: it stays among the elements and takes sums to sums, on both sides; and the loop that sums its terms.
--- Assumes nothing.
+-- Horner's rule at a point whose product is additive: it stays among the elements and takes sums to sums, on both
+-- sides; and the loop that sums its terms. Assumes nothing.
 use mathlib.Core.Path.{_≡_, refl, sym, ap, ap₂, _∙_, subst}
 use Prim.Native.Nat.{ℕ, zero, suc, _-_, _*_, _/_, _%_, _^_, _<_, _≤_}
 use native.Mathlib.Omega.{arith}
-use lib.Bits.{bitXor, xor-lt, xor-comm, xor-self, xor-zero-r}
-use Rattle.ground.proofs.Xor.{bit-cases, odd, xor-half, xor-assoc}
+use lib.Bits.{bitXor, xor-lt, xor-zero-r, xor-comm, xor-self}
+use Rattle.ground.proofs.Xor.{odd, xor-half, bit-cases, xor-assoc}
 use Rattle.bch.specs.Field.{horner}
 use Rattle.bch.proofs.Xor.{xor-odd, xor-swap, digits-times, digit-times-xor}
-use Rattle.bch.proofs.Additive.{Additive}
+use Rattle.bch.proofs.TimesX.{Additive}
 
 pub digit-lt : (d a : ℕ) → d < 2 → a < 2 ^ 7 → d * a < 2 ^ 7
 digit-lt d a hd ha = bit-cases (λ (x : ℕ). x * a < 2 ^ 7) (omega arith) (omega arith) d hd
@@ -30,8 +30,8 @@ module _ (f : ℕ → ℕ) (hf : Additive f) where
   zero-fixed : f 0 ≡ 0
   zero-fixed = hf .xor 0 0 (omega arith) (omega arith) ∙ xor-self (f 0)
 
-  digit-f : (d a : ℕ) → d < 2 → d * f a ≡ f (d * a)
-  digit-f d a hd =
+  digit-product : (d a : ℕ) → d < 2 → d * f a ≡ f (d * a)
+  digit-product d a hd =
       bit-cases (λ (x : ℕ). x * f a ≡ f (x * a))
       (let e : 0 * f a ≡ 0 = omega arith in let g : 0 * a ≡ 0 = omega arith in e ∙ sym (ap f g ∙ zero-fixed))
       (let e : 1 * f a ≡ f a = omega arith in let g : 1 * a ≡ a = omega arith in e ∙ sym (ap f g)) d hd
@@ -40,7 +40,7 @@ module _ (f : ℕ → ℕ) (hf : Additive f) where
   pub horner-out : (n a b : ℕ) → a < 2 ^ 7 → horner f n (f a) b ≡ f (horner f n a b)
   horner-out zero a b h = sym zero-fixed
   horner-out (suc n) a b h =
-      ap₂ (λ (x y : ℕ). bitXor (f x) y) (horner-out n a (b / 2) h) (digit-f (b % 2) a (odd b))
+      ap₂ (λ (x y : ℕ). bitXor (f x) y) (horner-out n a (b / 2) h) (digit-product (b % 2) a (odd b))
       ∙ sym (hf .xor (f (horner f n a (b / 2))) (b % 2 * a) (hf .lt (horner f n a (b / 2)) (horner-lt n a (b / 2) h)) (digit-lt (b % 2) a (odd b) h))
 
   pub horner-xor-front : (n a c b : ℕ) → a < 2 ^ 7 → c < 2 ^ 7

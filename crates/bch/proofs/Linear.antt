@@ -1,15 +1,15 @@
 -- Two maps that take sums to sums and agree at the powers of two below 2^n agree below 2^n.
 -- Assumes nothing.
 use mathlib.Core.Path.{_≡_, sym, ap, ap₂, _∙_, subst}
+use mathlib.Core.Bool.{Bool}
 use Prim.Native.Nat.{ℕ, zero, suc, _*_, _/_, _%_, _^_, _<_}
 use native.Mathlib.Nat.{mod-lt, pow-suc, div-add-mod', div-lt-iff-lt-mul, div-mul-le-self, mod-le, mul-comm}
 use native.Mathlib.Omega.{arith}
 use lib.Bits.{bitXor, xor-self, xor-shifted}
-use lib.Pow.{pow-pos}
 use lib.Dec.{T, eqb, eqb→eq}
-use mathlib.Core.Bool.{Bool}
-use Rattle.ground.proofs.Xor.{bit-cases}
+use lib.Pow.{pow-pos}
 use Rattle.ground.proofs.Tests.{below, below-at}
+use Rattle.ground.proofs.Xor.{bit-cases}
 
 abbrev pub Sums : (ℕ → ℕ) → Type 0
 Sums f = (a b : ℕ) → f (bitXor a b) ≡ bitXor (f a) (f b)

@@ -3,9 +3,9 @@ use mathlib.Core.Path.{_≡_, refl, sym, ap, ap₂, _∙_}
 use Prim.Native.Nat.{ℕ, _+_, _*_, _%_, _^_, _<_}
 use native.Mathlib.Nat.{add-zero}
 use native.Mathlib.Omega.{arith}
+use lib.Bits.{bitXor, differ, xor-block, xor-zero-r, xor-comm, xor-self}
 use lib.Pow.{pow-pos}
-use lib.Bits.{bitXor, differ, xor-block, xor-comm, xor-self, xor-zero-r}
-use Rattle.ground.proofs.Xor.{bit-cases, odd, differ-odd, xor-assoc, xor-again}
+use Rattle.ground.proofs.Xor.{odd, differ-odd, bit-cases, xor-again, xor-assoc}
 
 differ-is : (x y : ℕ) → x < 2 → y < 2 → differ x y ≡ bitXor x y
 differ-is x y hx hy =

@@ -1,8 +1,9 @@
--- Document 01, 'TPS': the field GF(128) by the polynomial x^7 + x^3 + 1. An element is a number below 128, whose binary digits are the
--- coefficients; the sum is XOR; the product is worked out by shifting and adding.
+-- Document 01, 'TPS': the field GF(128) by the polynomial x^7 + x^3 + 1. An element is a number below 128, whose
+-- binary digits are the coefficients; the sum is XOR; the product is worked out by shifting and adding. No public
+-- promise cites this file.
 use Prim.Native.Nat.{ℕ, zero, suc, _*_, _/_, _%_, _^_}
 use lib.Bits.{bitXor}
-use Rattle.bch.specs.Poly.{divisionStep}
+use Rattle.bch.specs.Polynomial.{divisionStep}
 
 -- x^7 + x^3 + 1
 abbrev pub FIELD : ℕ
@@ -20,3 +21,20 @@ horner f (suc n) a b = bitXor (f (horner f n a (b / 2))) (b % 2 * a)
 -- the product of two elements; of a number above 127 the low seven digits count
 unfoldable pub mul : ℕ → ℕ → ℕ
 mul a b = horner timesX 7 (a % 2 ^ 7) b
+
+-- an element times x^2, x^3, x^4
+abbrev pub timesX2 : ℕ → ℕ
+timesX2 a = timesX (timesX a)
+
+abbrev pub timesX3 : ℕ → ℕ
+timesX3 a = timesX (timesX2 a)
+
+abbrev pub timesX4 : ℕ → ℕ
+timesX4 a = timesX2 (timesX2 a)
+
+-- the syndromes S1 and S3: the polynomial of the 14 digits of a remainder, at x and at x^3
+unfoldable pub syndrome1 : ℕ → ℕ
+syndrome1 s = horner timesX 14 1 s
+
+unfoldable pub syndrome3 : ℕ → ℕ
+syndrome3 s = horner timesX3 14 1 s

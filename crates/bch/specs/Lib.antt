@@ -1,7 +1,6 @@
-pub mod Poly
+pub mod Polynomial
 pub mod Code
-pub mod Field
+pub mod NearCodeword
 pub mod Promise
-pub mod Near
-pub mod Inner
+pub mod Field
 pub mod Search

@@ -1,25 +1,34 @@
--- Document 01, 'TPS' and 'Refusal numbers': what the encoder and the decoder answer, and what they leave in the lent output.
+-- Document 01, 'TPS' and 'Refusal numbers': what the encoder and the decoder answer, and what they leave in the lent
+-- output.
 use mathlib.Core.Path.{_≡_}
-use mathlib.Core.List.{List}
+use mathlib.Core.Bool.{not}
+use mathlib.Core.List.{List, [], _∷_}
 use mathlib.Core.Logic.{_⊎_}
 use Prim.Native.Nat.{ℕ, zero, suc, _≤_}
-use lib.Dec.{eqb, ltb}
+use lib.Dec.{eqb}
 use lib.ListN.{length, take}
-use Rattle.ground.specs.Refusal.{ACCEPTED, LENGTH, NOT-A-BIT, OUTPUT-SHORT, NO-WORD}
-use Rattle.ground.specs.Answer.{pick, counted, kept, written}
+use Rattle.ground.specs.Refusal.{ACCEPTED, LENGTH, NOT-A-BIT, OUTPUT-SHORT, NO-WORD, _gives_, firstOf}
+use Rattle.ground.specs.Answer.{counted, kept, written, short}
 use Rattle.ground.specs.Bits.{areBits}
 use Rattle.ground.specs.declared.Counted.{Counted}
-use Rattle.bch.specs.Code.{Codeword, distance, encode}
+use Rattle.bch.specs.Code.{Codeword, distance, encode, Lone}
+use Rattle.bch.specs.NearCodeword.{nearOf, isNone, informationIn}
 
--- the number of a call that takes `size` bits and writes `needs`: LENGTH, NOT A BIT, OUTPUT SHORT, in this order
+-- the number of a call that takes `size` bits and writes `needs`, by the slices that it is lent
 abbrev pub lentNo : ℕ → ℕ → List ℕ → List ℕ → ℕ
 lentNo size needs bits out =
-    pick (eqb (length bits) size) (pick (areBits bits) (pick (ltb (length out) needs) OUTPUT-SHORT ACCEPTED) NOT-A-BIT) LENGTH
+    firstOf
+    (not (eqb (length bits) size) gives LENGTH
+    ∷ not (areBits bits) gives NOT-A-BIT
+    ∷ short needs out gives OUTPUT-SHORT
+    ∷ [])
+
+-- ---- the encoder
 
 abbrev pub encodeNo : List ℕ → List ℕ → ℕ
 encodeNo info out = lentNo 53 67 info out
 
--- what the encoder answers, and what it leaves
+-- what it answers, and what it leaves
 abbrev pub encodeAnswer : List ℕ → List ℕ → Counted
 encodeAnswer info out = counted (encodeNo info out) 67
 
@@ -41,15 +50,29 @@ pub record Refuses (no : ℕ) (before : List ℕ) (answer : Counted) (after : Li
   pub answers : answer ≡ counted no 53
   pub leaves : after ≡ before
 
--- no codeword is within distance two of the bits w
-abbrev pub Lone : List ℕ → Type 0
-Lone w = (c : List ℕ) → Codeword c → distance c w ≤ 2 → ⊥
-
 -- the answer to 67 bits, with room for 53: that of a codeword within distance two, or NO WORD and there is none
 abbrev pub Answers : ℕ → List ℕ → List ℕ → Counted → List ℕ → Type 0
 Answers zero w before answer after = Corrected w before answer after ⊎ (Lone w × Refuses NO-WORD before answer after)
 Answers (suc k) w before answer after = Refuses (suc k) before answer after
 
--- the decoder's promise: of the bits w, what stood in the lent output, the answer, and what is left in the output
+-- the promise: of the bits w, what stood in the lent output, the answer, and what is left in the output
 abbrev pub Decodes : List ℕ → List ℕ → Counted → List ℕ → Type 0
 Decodes w before answer after = Answers (lentNo 67 53 w before) w before answer after
+
+-- ---- the decoder as a function: its answer is the one that meets the promise
+
+abbrev pub decodeNo : List ℕ → List ℕ → ℕ
+decodeNo w out =
+    firstOf
+    (not (eqb (length w) 67) gives LENGTH
+    ∷ not (areBits w) gives NOT-A-BIT
+    ∷ short 53 out gives OUTPUT-SHORT
+    ∷ isNone (nearOf w) gives NO-WORD
+    ∷ [])
+
+-- what it answers, and what it leaves
+abbrev pub decodeAnswer : List ℕ → List ℕ → Counted
+decodeAnswer w out = counted (decodeNo w out) 53
+
+abbrev pub decodeLeaves : List ℕ → List ℕ → List ℕ
+decodeLeaves w out = kept (decodeNo w out) (written (informationIn (nearOf w)) out) out

@@ -1,59 +1,21 @@
--- The textbook decoder's parts, which the functions of the module `inner` promise: high parts of a polynomial folded down, the syndromes S1 and S3,
--- what changed places add to the remainder, and the search for the locator's roots. No public promise cites this file.
+-- The decoder's search, which the functions of the module `search` promise: what changed places add to the remainder,
+-- the search for the locator's roots, and the bits with the places flipped. No public promise cites this file.
 use mathlib.Core.Path.{_≡_}
 use mathlib.Core.List.{List, [], _∷_}
-use Prim.Native.Nat.{ℕ, zero, suc, _-_, _*_, _^_, _≤_, _<_}
+use Prim.Native.Nat.{ℕ, zero, suc, _-_, _^_, _≤_, _<_}
 use lib.Bits.{bitXor}
-use lib.ListN.{length}
-use Rattle.bch.specs.Code.{turn}
-use Rattle.bch.specs.Field.{timesX, horner, mul}
-use Rattle.bch.specs.declared.inner.Found.{Found}
-use Rattle.bch.specs.declared.inner.Found.the-variants.{Clean, One, Two, NoWord}
-
--- ---- remainders
-
--- low + h + h x^j + .. over the j of a list
-abbrev pub joined : ℕ → List ℕ → ℕ → ℕ
-joined low [] h = low
-joined low (j ∷ js) h = joined (bitXor low (h * 2 ^ j)) js h
-
-abbrev pub folded : List ℕ → ℕ → ℕ → ℕ
-folded js low h = joined (bitXor low h) js h
-
--- ---- the syndromes
-
--- an element times x^2, x^3, x^4
-abbrev pub timesX2 : ℕ → ℕ
-timesX2 a = timesX (timesX a)
-
-abbrev pub timesX3 : ℕ → ℕ
-timesX3 a = timesX (timesX2 a)
-
-abbrev pub timesX4 : ℕ → ℕ
-timesX4 a = timesX2 (timesX2 a)
-
--- S1 and S3: the polynomial of the 14 digits of a remainder, at x and at x^3
-unfoldable pub syn1 : ℕ → ℕ
-syn1 s = horner timesX 14 1 s
-
-unfoldable pub syn3 : ℕ → ℕ
-syn3 s = horner timesX3 14 1 s
-
--- S1 and S3 of a remainder s, the first not zero, and c = S1^3 + S3
-pub record Syndromes (s s1 s3 c : ℕ) : Type 0 where
-  pub small : s < 2 ^ 14
-  pub element : s1 < 2 ^ 7
-  pub first : s1 ≡ syn1 s
-  pub third : s3 ≡ syn3 s
-  pub nonzero : s1 ≡ 0 → ⊥
-  pub rest : c ≡ bitXor s3 (mul (mul s1 s1) s1)
+use lib.ListN.{length, set, getD}
+use Rattle.bch.specs.Code.{step, Codeword, Lone}
+use Rattle.bch.specs.Field.{timesX, timesX2, mul, syndrome1, syndrome3}
+use Rattle.bch.specs.declared.search.Found.{Found}
+use Rattle.bch.specs.declared.search.Found.the-variants.{Clean, One, Two, NoWord}
 
 -- ---- patterns of changed places
 
 -- x^n modulo h(x)
 abbrev pub power : ℕ → ℕ
 power zero = 1
-power (suc n) = turn (power n) 0
+power (suc n) = step (power n) 0
 
 -- what a change of the place k, of 67, adds to the remainder
 unfoldable pub column : ℕ → ℕ
@@ -69,23 +31,36 @@ abbrev pub Rising : ℕ → List ℕ → Type 0
 Rising k [] = Unit {0}
 Rising k (i ∷ ps) = (k ≤ i) × (i < 67) × Rising (suc i) ps
 
+-- no pattern of at most two places adds up to s
+abbrev pub NoPattern : ℕ → Type 0
+NoPattern s = (ps : List ℕ) → Rising 0 ps → length ps ≤ 2 → added ps ≡ s → ⊥
+
 -- ---- the search
 
--- k times the product f
-abbrev pub steps : (ℕ → ℕ) → ℕ → ℕ → ℕ
-steps f zero a = a
-steps f (suc k) a = f (steps f k a)
+-- S1 and S3 of a remainder s, the first not zero, and c = S1^3 + S3
+pub record Syndromes (s s1 s3 c : ℕ) : Type 0 where
+  pub small : s < 2 ^ 14
+  pub element : s1 < 2 ^ 7
+  pub first : s1 ≡ syndrome1 s
+  pub third : s3 ≡ syndrome3 s
+  pub nonzero : s1 ≡ 0 → ⊥
+  pub rest : c ≡ bitXor s3 (mul (mul s1 s1) s1)
+
+-- the product f, k times
+abbrev pub repeated : (ℕ → ℕ) → ℕ → ℕ → ℕ
+repeated f zero a = a
+repeated f (suc k) a = f (repeated f k a)
 
 -- the sum of the locator's terms, k degrees on from p and q
 abbrev pub valueAt : ℕ → ℕ → ℕ → ℕ
-valueAt p q k = bitXor (steps timesX2 k p) (steps timesX k q)
+valueAt p q k = bitXor (repeated timesX2 k p) (repeated timesX k q)
 
 -- from the terms p and q at the degree d, the search has moved on to p' and q' at the degree d', past no root
 pub record Passed (c p q d p' q' d' : ℕ) : Type 0 where
   pub on : d ≤ d'
   pub within : d' ≤ 67
-  pub first : p' ≡ steps timesX2 (d' - d) p
-  pub second : q' ≡ steps timesX (d' - d) q
+  pub first : p' ≡ repeated timesX2 (d' - d) p
+  pub second : q' ≡ repeated timesX (d' - d) q
   pub none : (k : ℕ) → k < d' - d → valueAt p q k ≡ c → ⊥
 
 -- the same, and the degree d' is a root, or past the 67 places
@@ -98,4 +73,25 @@ abbrev pub Locates : ℕ → Found → Type 0
 Locates s Clean = s ≡ 0
 Locates s (One i) = Rising 0 (i ∷ []) × (added (i ∷ []) ≡ s)
 Locates s (Two i j) = Rising 0 (i ∷ j ∷ []) × (added (i ∷ j ∷ []) ≡ s)
-Locates s NoWord = (ps : List ℕ) → Rising 0 ps → length ps ≤ 2 → added ps ≡ s → ⊥
+Locates s NoWord = NoPattern s
+
+-- ---- the bits with the places flipped
+
+-- the bit at the place i flipped; past the end, nothing
+unfoldable pub flip : List ℕ → ℕ → List ℕ
+flip w i = set w i (1 - getD w i 0)
+
+-- the bits with the named places flipped
+abbrev pub mended : List ℕ → Found → List ℕ
+mended w Clean = w
+mended w (One i) = flip w i
+mended w (Two i j) = flip (flip w i) j
+mended w NoWord = w
+
+-- what is promised of the bits: at most two rising places below 67 whose change makes a codeword of w, or there is
+-- none within distance two
+abbrev pub Changes : List ℕ → Found → Type 0
+Changes w Clean = Codeword w
+Changes w (One i) = (i < 67) × Codeword (flip w i)
+Changes w (Two i j) = (i < j) × (j < 67) × Codeword (flip (flip w i) j)
+Changes w NoWord = Lone w

@@ -1,10 +1,48 @@
 // The TPS code BCH(67,53): its encoder and its decoder (EN 300 744, 4.6.2.11).
 ghost use mathlib.Core.Path.{_≡_};
+ghost use Prim.Native.Nat.{_≤_};
+ghost use lib.ListN.{length, take};
+ghost use Rattle.ground.specs.Bits.{Bits};
+ghost use Rattle.bch.specs.Code.{encode};
+ghost use Rattle.bch.specs.Search.{flip, mended};
 ghost use Rattle.bch.specs.Promise.{encodeAnswer, encodeLeaves, Decodes};
 use ground::Counted;
-use inner::Found;
+use search::Found;
 
+mod field;
 pub mod inner;
+mod remainder;
+mod search;
+
+// Copies the first 53 bits of a slice, four at a time.
+fn copy_information(bits: &[u8], out: &mut [u8])
+    requires { ⌜ (53 ≤ length (now bits)) × (length (now out) ≡ 53) ⌝ }
+    ensures { λ _. ⌜ now (out .exit) ≡ take 53 (now (bits .entry)) ⌝ }
+{
+    let mut i: usize = 0;
+    while i + 4 <= out.len() {
+        let first = bits[i];
+        let second = bits[i + 1];
+        let third = bits[i + 2];
+        let fourth = bits[i + 3];
+        out[i] = first;
+        out[i + 1] = second;
+        out[i + 2] = third;
+        out[i + 3] = fourth;
+        i += 4;
+    }
+    out[i] = bits[i];
+}
+
+// Writes the codeword of the information (EN 300 744, 4.6.2.11).
+fn put_codeword(info: &[u8], out: &mut [u8])
+    requires { ⌜ Bits (now info) × (length (now info) ≡ 53) × (length (now out) ≡ 67) ⌝ }
+    ensures { λ r. ⌜ now (out .exit) ≡ encode (now (info .entry)) ⌝ }
+{
+    let parity = remainder::parity_of(ground::inner::packed(info));
+    copy_information(info, &mut out[..53]);
+    ground::inner::put_digits(parity, &mut out[53..]);
+}
 
 // The 67 bits of the codeword of 53 information bits, written to the lent output (EN 300 744, 4.6.2.11).
 pub fn tps_bch_encode(info: &[u8], out: &mut [u8]) -> Counted
@@ -20,11 +58,39 @@ pub fn tps_bch_encode(info: &[u8], out: &mut [u8]) -> Counted
     if out.len() < 67 {
         return Counted::Refused(ground::OUTPUT_SHORT);
     }
-    inner::put_codeword(info, &mut out[..67]);
+    put_codeword(info, &mut out[..67]);
     Counted::Count(67)
 }
 
-// The 53 information bits of the codeword within distance two of 67 bits, written to the lent output (EN 300 744, 4.6.2.11).
+// The bit at i flipped, where there is one.
+fn flip_at(out: &mut [u8], i: usize)
+    requires { ⌜ Bits (now out) ⌝ }
+    ensures { λ r. ⌜ now (out .exit) ≡ flip (now (out .entry)) i ⌝ }
+{
+    if i < out.len() {
+        out[i] = 1 - out[i];
+    }
+}
+
+// Writes the information of the bits with the named places flipped.
+fn put_information(code: &[u8], found: Found, out: &mut [u8])
+    requires { ⌜ Bits (now code) × (length (now code) ≡ 67) × (length (now out) ≡ 53) ⌝ }
+    ensures { λ r. ⌜ now (out .exit) ≡ take 53 (mended (now (code .entry)) found) ⌝ }
+{
+    copy_information(code, out);
+    match found {
+        Found::Clean => {}
+        Found::One(i) => flip_at(out, i),
+        Found::Two(i, j) => {
+            flip_at(out, i);
+            flip_at(out, j);
+        }
+        Found::NoWord => {}
+    }
+}
+
+// The 53 information bits of the codeword within distance two of 67 bits, written to the lent output (EN 300 744,
+// 4.6.2.11).
 pub fn tps_bch_decode(code: &[u8], out: &mut [u8]) -> Counted
     ensures { λ r. ⌜ Decodes (now (code .entry)) (now (out .entry)) r (now (out .exit)) ⌝ }
 {
@@ -37,10 +103,10 @@ pub fn tps_bch_decode(code: &[u8], out: &mut [u8]) -> Counted
     if out.len() < 53 {
         return Counted::Refused(ground::OUTPUT_SHORT);
     }
-    let found = inner::changes(code);
+    let found = search::changes(code);
     if let Found::NoWord = found {
         return Counted::Refused(ground::NO_WORD);
     }
-    inner::put_information(code, found, &mut out[..53]);
+    put_information(code, found, &mut out[..53]);
     Counted::Count(53)
 }

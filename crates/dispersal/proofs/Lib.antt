@@ -1,6 +1,6 @@
 pub mod Mirror
 pub mod Register
+pub mod MirroredRegister
 pub mod Outputs
 pub mod Streams
-pub mod Turns
-pub mod Twice
+pub mod Whitening

@@ -4,7 +4,7 @@ use mathlib.Core.List.{List, [], _∷_}
 use Prim.Native.Nat.{ℕ, zero, suc, _+_, _*_, _/_, _%_, _^_, _≤_}
 use lib.Bits.{bitXor}
 use lib.ListN.{length, take}
-use Rattle.dispersal.specs.Register.{start, after, outputs}
+use Rattle.dispersal.specs.Register.{start, steps, outputs}
 
 -- the low n bits of x in the opposite order
 unfoldable pub mirror : ℕ → ℕ → ℕ
@@ -14,7 +14,7 @@ mirror (suc n) x = x % 2 * 2 ^ n + mirror n (x / 2)
 -- the register's outputs from r on, eight a byte: n bytes
 unfoldable pub stream : ℕ → ℕ → List ℕ
 stream zero r = []
-stream (suc n) r = outputs 8 r ∷ stream n (after 8 r)
+stream (suc n) r = outputs 8 r ∷ stream n (steps 8 r)
 
 -- the bytes s, each XORed with the one at its place in m
 unfoldable pub xored : List ℕ → List ℕ → List ℕ

@@ -12,20 +12,20 @@ unfoldable pub output : ℕ → ℕ
 output r = bitXor (r % 2) (r / 2 % 2)
 
 -- a step: a right shift, and the output bit re-enters at bit 14
-unfoldable pub next : ℕ → ℕ
-next r = output r * 2 ^ 14 + r / 2
+unfoldable pub step : ℕ → ℕ
+step r = output r * 2 ^ 14 + r / 2
 
--- the register after n steps
-unfoldable pub after : ℕ → ℕ → ℕ
-after zero r = r
-after (suc n) r = after n (next r)
+-- n steps
+unfoldable pub steps : ℕ → ℕ → ℕ
+steps zero r = r
+steps (suc n) r = steps n (step r)
 
 -- the next k output bits as a number, the first one highest
 unfoldable pub outputs : ℕ → ℕ → ℕ
 outputs zero r = 0
-outputs (suc k) r = output r * 2 ^ k + outputs k (next r)
+outputs (suc k) r = output r * 2 ^ k + outputs k (step r)
 
 -- bytes whitened from the register r on, high bit first
 unfoldable pub whitened : ℕ → List ℕ → List ℕ
 whitened r [] = []
-whitened r (b ∷ bs) = bitXor b (outputs 8 r) ∷ whitened (after 8 r) bs
+whitened r (b ∷ bs) = bitXor b (outputs 8 r) ∷ whitened (steps 8 r) bs

@@ -1,12 +1,11 @@
-// For the crates above: a stretch of the register's outputs made once, and whitening with it.
+// For the crates above: a stream of the register's outputs made once, and whitening with it.
 ghost use mathlib.Core.Path.{_≡_};
-ghost use Prim.Native.Nat.{_≤_};
 ghost use lib.ListN.{length};
 ghost use Rattle.dispersal.specs.Register.{start};
 ghost use Rattle.dispersal.specs.Inner.{stream, xored, Begun};
 use super::DvbTEnergyDispersal;
 
-// Whitens bytes where they stand, with a stretch of outputs that is as long as they are.
+// Whitens bytes where they stand, with a stream of outputs that is as long as they are.
 pub fn whiten(outputs: &[u8], bytes: &mut [u8])
     requires { ⌜ length (now outputs) ≡ length (now bytes) ⌝ }
     ensures { λ _. ⌜ now (bytes .exit) ≡ xored (now (bytes .entry)) (now (outputs .entry)) ⌝ }

@@ -1,11 +1,11 @@
 // Energy dispersal (EN 300 744, 4.3.1): the register of 15 bits, and the whitening of bytes.
 ghost use mathlib.Core.Path.{_≡_};
-ghost use Prim.Native.Nat.{_*_, _/_, _%_, _^_, _<_};
+ghost use Prim.Native.Nat.{_/_, _%_, _^_, _<_};
 ghost use lib.ListN.{length};
 ghost use lib.Bits.{bitXor};
-ghost use Rattle.ground.specs.Answer.{counted, kept, written};
-ghost use Rattle.dispersal.specs.Register.{start, next, after, outputs, whitened};
-ghost use Rattle.dispersal.specs.Whitener.{held, feedNo};
+ghost use Rattle.dispersal.specs.Register.{start, step, steps};
+ghost use Rattle.dispersal.specs.Whitener.{registerOf, feedInPlaceAnswer, feedInPlaceLeaves, feedAnswer};
+ghost use Rattle.dispersal.specs.Whitener.{feedLeaves};
 ghost use Rattle.dispersal.specs.Inner.{mirror};
 use ground::Counted;
 
@@ -41,9 +41,9 @@ fn mirrored(bits: u16) -> u16
 }
 
 // The register one step on.
-fn stepped(reg: u16) -> u16
+fn step(reg: u16) -> u16
     requires { ⌜ reg < 2 ^ 15 ⌝ }
-    ensures { λ r. ⌜ r ≡ next reg ⌝ }
+    ensures { λ r. ⌜ r ≡ step reg ⌝ }
 {
     let output = (reg % 2) ^ (reg / 2 % 2);
     output * 0x4000 + reg / 2
@@ -75,12 +75,12 @@ impl DvbTEnergyDispersal {
 
     // The whitener eight steps on, over a byte that is left as it is.
     pub fn advance_byte(self) -> DvbTEnergyDispersal
-        ensures { λ r. ⌜ r .reg ≡ after 8 (held self) ⌝ }
+        ensures { λ r. ⌜ r .reg ≡ steps 8 (registerOf self) ⌝ }
     {
         let mut reg = self.reg % 0x8000;
         let mut left: u16 = 8;
         while left > 0 {
-            reg = stepped(reg);
+            reg = step(reg);
             left -= 1;
         }
         DvbTEnergyDispersal { reg }
@@ -88,8 +88,8 @@ impl DvbTEnergyDispersal {
 
     // Whitens bytes where they stand, high bit first.
     pub fn feed_in_place(self, bytes: &mut [u8]) -> DvbTEnergyDispersal
-        ensures whitener { λ r. ⌜ r .reg ≡ after (8 * length (now (bytes .entry))) (held self) ⌝ }
-        ensures bytes { λ _. ⌜ now (bytes .exit) ≡ whitened (held self) (now (bytes .entry)) ⌝ }
+        ensures answer { λ r. ⌜ r ≡ feedInPlaceAnswer self (now (bytes .entry)) ⌝ }
+        ensures bytes { λ _. ⌜ now (bytes .exit) ≡ feedInPlaceLeaves self (now (bytes .entry)) ⌝ }
     {
         let mut ahead = mirrored(self.reg);
         let mut i = 0;
@@ -107,7 +107,8 @@ impl DvbTEnergyDispersal {
     // Whitens bytes into a slice of the same length.
     fn feed_into(self, bytes: &[u8], out: &mut [u8]) -> DvbTEnergyDispersal
         requires { ⌜ length (now bytes) ≡ length (now out) ⌝ }
-        ensures { λ r. ⌜ (r .reg ≡ after (8 * length (now (bytes .entry))) (held self)) × (now (out .exit) ≡ whitened (held self) (now (bytes .entry))) ⌝ }
+        ensures answer { λ r. ⌜ r ≡ feedInPlaceAnswer self (now (bytes .entry)) ⌝ }
+        ensures output { λ _. ⌜ now (out .exit) ≡ feedInPlaceLeaves self (now (bytes .entry)) ⌝ }
     {
         ground::inner::copy(bytes, out);
         self.feed_in_place(out)
@@ -115,9 +116,8 @@ impl DvbTEnergyDispersal {
 
     // Whitens bytes into a lent output; OUTPUT SHORT where it is shorter than they are.
     pub fn feed(self, bytes: &[u8], out: &mut [u8]) -> Fed
-        ensures answer { λ r. ⌜ r .answer ≡ counted (feedNo (now (bytes .entry)) (now (out .entry))) (length (now (bytes .entry))) ⌝ }
-        ensures whitener { λ r. ⌜ r .whitener .reg ≡ kept (feedNo (now (bytes .entry)) (now (out .entry))) (after (8 * length (now (bytes .entry))) (held self)) (self .reg) ⌝ }
-        ensures output { λ _. ⌜ now (out .exit) ≡ kept (feedNo (now (bytes .entry)) (now (out .entry))) (written (whitened (held self) (now (bytes .entry))) (now (out .entry))) (now (out .entry)) ⌝ }
+        ensures answer { λ r. ⌜ r ≡ feedAnswer self (now (bytes .entry)) (now (out .entry)) ⌝ }
+        ensures output { λ _. ⌜ now (out .exit) ≡ feedLeaves self (now (bytes .entry)) (now (out .entry)) ⌝ }
     {
         let n = bytes.len();
         if out.len() < n {

@@ -1,9 +1,9 @@
 -- Document 01's ten small facts. Assumes nothing.
 use mathlib.Core.Path.{refl}
-use Rattle.dispersal.proofs.Twice.{first-bytes}
+use Rattle.dispersal.proofs.Whitening.{first-bytes}
 use Rattle.carriers.proofs.SmallFacts.{wk-begins, four-bins, scattered-counts}
 use Rattle.bch.proofs.Facts as bch
-use Rattle.ts.proofs.Theorems.{two-packets}
+use Rattle.ts.proofs.Packets.{two-packets}
 use Rattle.facts.specs.SmallFacts.{SmallFacts}
 
 pub small-facts : SmallFacts

@@ -1,4 +1,5 @@
--- Document 01, 'Small facts to hold the definitions to': the ten facts in one list, over the definitions that the promises cite.
+-- Document 01, 'Small facts to hold the definitions to': the ten facts in one list, over the definitions that the
+-- promises cite.
 use mathlib.Core.Path.{_≡_}
 use mathlib.Core.List.{List, [], _∷_, _++_, map}
 use Prim.Native.Nat.{ℕ, _≤_}
@@ -14,7 +15,6 @@ use Rattle.carriers.specs.Sequence.{wkFrom}
 use Rattle.carriers.specs.Carriers.{scattered}
 use Rattle.bch.specs.Code.{parity}
 use Rattle.bch.specs.Promise.{Decodes}
-use Rattle.gray.specs.declared.ConstellationOrder.{ConstellationOrder}
 use Rattle.gray.specs.Levels.{orderOf, levels}
 use Rattle.gray.specs.Mapping.{index}
 use Rattle.ts.specs.Packets.{packetized}

@@ -1,14 +1,14 @@
--- Two results that meet the promise of hard demapping are equal: the first index with the least distance is the only one. Assumes nothing.
+-- Two results that meet the promise of hard demapping are equal: the first index with the least distance is the only
+-- one. Assumes nothing.
 use Prim.Native.Nat.{ℕ, zero, suc}
-use mathlib.Core.Path.{_≡_, sym, ap₂, _∙_}
+use mathlib.Core.Path.{_≡_, sym, _∙_, ap₂}
 use mathlib.Core.List.{List}
-use lib.ListN.{length}
-use Rattle.ground.specs.declared.Cell.{Cell}
 use Rattle.ground.specs.Answer.{kept, written}
-use Rattle.gray.specs.declared.ConstellationOrder.{ConstellationOrder}
+use Rattle.ground.specs.declared.Cell.{Cell}
+use Rattle.ground.specs.declared.ConstellationOrder.{ConstellationOrder}
 use Rattle.gray.specs.Levels.{orderOf}
 use Rattle.gray.specs.Hard.{distances, bitsOf, Wrote, demapNo, Demapped}
-use Rattle.gray.proofs.Nearest.{first-unique}
+use Rattle.gray.proofs.Ieee.First.{first-unique}
 
 wrote-determined : (o : ConstellationOrder) (c : Cell) (old a b : List ℕ) → Wrote o c old a → Wrote o c old b → a ≡ b
 wrote-determined o c old a b p q =
@@ -18,7 +18,7 @@ wrote-determined o c old a b p q =
     ∙ sym (q .output)
 
 pub demapped-determined : (c : Cell) (v : ℕ) (old a b : List ℕ) → Demapped c v old a → Demapped c v old b → a ≡ b
-demapped-determined c v old a b p q = go (demapNo v (length old)) p q
+demapped-determined c v old a b p q = go (demapNo v old) p q
   where
     go : (n : ℕ) → kept n (Wrote (orderOf v) c old a) (a ≡ old) → kept n (Wrote (orderOf v) c old b) (b ≡ old) → a ≡ b
     go zero p q = wrote-determined (orderOf v) c old a b p q

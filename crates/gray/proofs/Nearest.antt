@@ -1,43 +1,85 @@
--- The first index with the least distance on the whole axis, which the promise asks for: there is one for every coordinate, and at most one, whatever
--- the entries are. Assumes nothing.
-use Prim.Native.Nat.{ℕ, zero, suc, _-_, _≤_, _<_}
-use native.Mathlib.Nat.{eq-or-lt-of-le, not-suc-le-zero, le-of-suc-le-suc}
+-- The first index with the least distance: one index is its own, of two runs side by side the test picks that of both,
+-- and on the whole axis there is one for every coordinate. Assumes nothing.
+use Prim.Native.Nat.{ℕ, zero, suc, _≤_, _<_, _+_, _-_}
 use native.Mathlib.Omega.{arith}
-use mathlib.Core.Path.{_≡_, refl, sym, ap₂, _∙_, subst}
-use mathlib.Core.Logic.{_⊎_, ⊎-elim, inl, inr}
-use mathlib.Core.Bool.{Bool, not, cond}
-use mathlib.Core.List.{List, [], _∷_, map}
-use lib.IntN.{ℤ, pos}
-use lib.Dec.{T, T-not}
-use lib.ListN.{length, getD, length-map}
-use lib.Ieee.{Float, lt}
-use Rattle.gray.specs.declared.ConstellationOrder.{ConstellationOrder}
-use Rattle.gray.specs.declared.ConstellationOrder.the-variants.{Qpsk, Qam16, Qam64}
+use mathlib.Core.Path.{_≡_, refl, sym, ap, _∙_, subst, ap₂}
+use mathlib.Core.Bool.{true, Bool, false, not, cond}
+use mathlib.Core.List.{List}
+use mathlib.Core.Logic.{⊎-elim}
+use lib.ListN.{length}
+use lib.Ieee.{Float, lt, isNan}
+use lib.Dec.{T, T-not, not-T}
+use Rattle.ground.specs.declared.ConstellationOrder.{ConstellationOrder}
 use Rattle.gray.specs.declared.Candidate.{Candidate}
-use Rattle.gray.specs.Levels.{levels, coordinate}
-use Rattle.gray.specs.Hard.{distance, distances, entry, First}
-use Rattle.gray.specs.Inner.{far, away, Leads}
-use Rattle.gray.proofs.Tests.{here-or-on}
-use Rattle.gray.proofs.Leads.{leads-one, leads-both}
+use Rattle.gray.specs.Levels.{levels}
+use Rattle.gray.specs.Inner.{distanceAt, apartAt, FirstBetween}
+use Rattle.gray.specs.Hard.{distances, First, entry}
+use Rattle.gray.proofs.Distances.{apart-order, distance-kind, distances-entry, distances-length}
+use Rattle.gray.proofs.Ieee.Magnitudes.{float-lt-irrefl, kind-lt-asymm, kind-lt-of-lt-of-le}
+use Rattle.gray.proofs.Levels.{some-levels}
+use Rattle.gray.proofs.Tests.{lt-or-ge}
 
-pub entry-map : (f : ℤ → Float) (ls : List ℤ) (j : ℕ) → j < length ls → entry (map f ls) j ≡ f (getD ls j (pos 0))
-entry-map f [] j h = absurd (not-suc-le-zero h)
-entry-map f (l ∷ ls) zero h = refl
-entry-map f (l ∷ ls) (suc j) h = entry-map f ls j (le-of-suc-le-suc h)
+module _ (o : ConstellationOrder) (x : Float) where
+  pub first-between-one : (c : Candidate) (i n : ℕ) → n ≡ i + 1 → c .index ≡ i → c .apart ≡ apartAt o x i → FirstBetween o x i n c
+  first-between-one c i n h e a =
+      record {
+        from = omega arith;
+        upto = omega arith;
+        apart = a ∙ ap (apartAt o x) (sym e);
+        least = λ j l u. subst (λ (k : ℕ). T (not (lt (distanceAt o x k) (distanceAt o x (c .index))))) (only j l u) (float-lt-irrefl (distanceAt o x (c .index)));
+        first = λ j l u. absurd (never j l u);
+      }
+    where
+      only : (j : ℕ) → i ≤ j → j < n → c .index ≡ j
+      only j l u = omega arith
 
-pub distances-length : (o : ConstellationOrder) (x : Float) → length (distances o x) ≡ length (levels o)
-unfolding distances
-distances-length o x = length-map (levels o) (λ (l : ℤ). distance x (coordinate o l))
+      never : (j : ℕ) → i ≤ j → j < c .index → ⊥
+      never j l u = omega arith
 
-pub distances-entry : (o : ConstellationOrder) (x : Float) (j : ℕ) → j < length (levels o) → entry (distances o x) j ≡ far o x j
-unfolding distances
-distances-entry o x j h = entry-map (λ (l : ℤ). distance x (coordinate o l)) (levels o) j h
+  module _ (lo mid hi : ℕ) (a b : Candidate) (A : FirstBetween o x lo mid a) (B : FirstBetween o x mid hi b) where
+    right-first : T (lt (distanceAt o x (b .index)) (distanceAt o x (a .index))) → FirstBetween o x lo hi b
+    right-first t =
+        record {
+          from = omega (arith, A .from, A .upto, B .from);
+          upto = B .upto;
+          apart = B .apart;
+          least = λ j l u. ⊎-elim (λ h. kind-lt-asymm (not (isNan x)) _ _ (distance-kind o x (b .index)) (distance-kind o x j) (less j l h)) (λ h. B .least j h u) (lt-or-ge j mid);
+          first = λ j l u. ⊎-elim (λ h. less j l h) (λ h. B .first j h u) (lt-or-ge j mid);
+        }
+      where
+        less : (j : ℕ) → lo ≤ j → j < mid → T (lt (distanceAt o x (b .index)) (distanceAt o x j))
+        less j l h = kind-lt-of-lt-of-le (not (isNan x)) _ _ _ (distance-kind o x (b .index)) (distance-kind o x (a .index)) (distance-kind o x j) t (A .least j l h)
 
-pub leads-first : (o : ConstellationOrder) (x : Float) (c : Candidate) (n : ℕ) → length (levels o) ≡ n → Leads o x 0 n c → First (distances o x) (c .index)
-leads-first o x c n e L =
+    left-first : T (not (lt (distanceAt o x (b .index)) (distanceAt o x (a .index)))) → FirstBetween o x lo hi a
+    left-first t =
+        record {
+          from = A .from;
+          upto = omega (arith, A .upto, B .from, B .upto);
+          apart = A .apart;
+          least = λ j l u. ⊎-elim (λ h. A .least j l h) (λ h. more j h u) (lt-or-ge j mid);
+          first = A .first;
+        }
+      where
+        more : (j : ℕ) → mid ≤ j → j < hi → T (not (lt (distanceAt o x j) (distanceAt o x (a .index))))
+        more j h u =
+            not-T (lt (distanceAt o x j) (distanceAt o x (a .index)))
+            (λ s. T-not (lt (distanceAt o x j) (distanceAt o x (b .index))) (B .least j h u) (kind-lt-of-lt-of-le (not (isNan x)) _ _ _ (distance-kind o x j) (distance-kind o x (a .index)) (distance-kind o x (b .index)) s t))
+
+    -- two runs side by side, and the one that the test picks
+    pub first-between-both : (r : Candidate) → r ≡ cond (lt (b .apart) (a .apart)) b a → FirstBetween o x lo hi r
+    first-between-both r e =
+        let same : lt (b .apart) (a .apart) ≡ lt (distanceAt o x (b .index)) (distanceAt o x (a .index)) = ap₂ lt (B .apart) (A .apart) ∙ apart-order o x (b .index) (a .index) in
+        subst (FirstBetween o x lo hi) (sym (e ∙ ap (λ (t : Bool). cond t b a) same)) (go (lt (distanceAt o x (b .index)) (distanceAt o x (a .index))) refl)
+      where
+        go : (t : Bool) → lt (distanceAt o x (b .index)) (distanceAt o x (a .index)) ≡ t → FirstBetween o x lo hi (cond t b a)
+        go true h = right-first (subst T (sym h) tt)
+        go false h = left-first (subst (λ (t : Bool). T (not t)) (sym h) tt)
+
+pub first-between-all : (o : ConstellationOrder) (x : Float) (c : Candidate) (n : ℕ) → length (levels o) ≡ n → FirstBetween o x 0 n c → First (distances o x) (c .index)
+first-between-all o x c n e L =
     let inside : (j : ℕ) → j < n → j < length (levels o) = λ j h. subst (λ (k : ℕ). j < k) (sym e) h in
     let size : length (distances o x) ≡ n = distances-length o x ∙ e in
-    let is : (j : ℕ) → j < n → entry (distances o x) j ≡ far o x j = λ j h. distances-entry o x j (inside j h) in
+    let is : (j : ℕ) → j < n → entry (distances o x) j ≡ distanceAt o x j = λ j h. distances-entry o x j (inside j h) in
     let here = is (c .index) (L .upto) in
     record {
       there = subst (λ (k : ℕ). c .index < k) (sym size) (L .upto);
@@ -45,47 +87,28 @@ leads-first o x c n e L =
       first = λ j h. subst T (sym (ap₂ lt here (is j (omega (arith, L .upto))))) (L .first j (omega arith) h);
     }
 
+pub first-of-equal-order : (o k : ConstellationOrder) (x : Float) {i : ℕ} → o ≡ k → First (distances k x) i → First (distances o x) i
+first-of-equal-order o k x {i} e f = subst (λ (p : ConstellationOrder). First (distances p x) i) (sym e) f
+
 -- for every coordinate some index is the first
-pub record Exists (ds : List Float) : Type 0 where
+pub record SomeFirst (ds : List Float) : Type 0 where
   pub i : ℕ
   pub i-first : First ds i
 
 module _ (o : ConstellationOrder) (x : Float) where
   abbrev alone : ℕ → Candidate
-  alone i = record { index = i; apart = away o x i }
+  alone i = record { index = i; apart = apartAt o x i }
 
   best : ℕ → Candidate
   best zero = alone 0
-  best (suc n) = cond (lt (away o x (suc n)) (best n .apart)) (alone (suc n)) (best n)
+  best (suc n) = cond (lt (apartAt o x (suc n)) (best n .apart)) (alone (suc n)) (best n)
 
-  best-leads : (n : ℕ) → Leads o x 0 (suc n) (best n)
+  best-first : (n : ℕ) → FirstBetween o x 0 (suc n) (best n)
   unfolding best
-  best-leads zero = leads-one o x (alone 0) 0 1 refl refl refl
-  best-leads (suc n) = leads-both o x 0 (suc n) (suc (suc n)) (best n) (alone (suc n)) (best-leads n) (leads-one o x (alone (suc n)) (suc n) (suc (suc n)) (omega arith) refl refl) (best (suc n)) refl
+  best-first zero = first-between-one o x (alone 0) 0 1 refl refl refl
+  best-first (suc n) = first-between-both o x 0 (suc n) (suc (suc n)) (best n) (alone (suc n)) (best-first n) (first-between-one o x (alone (suc n)) (suc n) (suc (suc n)) (omega arith) refl refl) (best (suc n)) refl
 
-some-levels : (o : ConstellationOrder) → length (levels o) ≡ suc (length (levels o) - 1)
-some-levels Qpsk = refl
-some-levels Qam16 = refl
-some-levels Qam64 = refl
-
-pub first-exists : (o : ConstellationOrder) (x : Float) → Exists (distances o x)
+pub first-exists : (o : ConstellationOrder) (x : Float) → SomeFirst (distances o x)
 first-exists o x =
     let n = length (levels o) - 1 in
-    record { i = best o x n .index; i-first = leads-first o x (best o x n) (suc n) (some-levels o) (best-leads o x n) }
-
-pub whole : (o k : ConstellationOrder) (x : Float) {i : ℕ} → o ≡ k → First (distances k x) i → First (distances o x) i
-whole o k x {i} e f = subst (λ (p : ConstellationOrder). First (distances p x) i) (sym e) f
-
--- at most one index is the first with the least entry, whatever the entries are
-pub first-unique : (ds : List Float) (i j : ℕ) → First ds i → First ds j → i ≡ j
-first-unique ds i j a b = go (here-or-on i j)
-  where
-    lower : i < j → i ≡ j
-    lower l = absurd (T-not (lt (entry ds j) (entry ds i)) (a .least j (b .there)) (b .first i l))
-
-    upper : j < i → i ≡ j
-    upper l = absurd (T-not (lt (entry ds i) (entry ds j)) (b .least i (a .there)) (a .first j l))
-
-    go : (i < j) ⊎ (j ≤ i) → i ≡ j
-    go (inl l) = lower l
-    go (inr l) = ⊎-elim (λ e. sym e) upper (eq-or-lt-of-le l)
+    record { i = best o x n .index; i-first = first-between-all o x (best o x n) (suc n) (some-levels o) (best-first o x n) }

@@ -1,18 +1,19 @@
--- Document 01, 'Gray mapping': hard demapping takes the first index with the least f32 distance on each axis, and writes its bits.
--- Another group size is LENGTH; then an output that is shorter than the group is OUTPUT SHORT.
+-- Document 01, 'Gray mapping': hard demapping takes the first index with the least f32 distance on each axis, and
+-- writes its bits. Another group size is LENGTH; then an output that is shorter than the group is OUTPUT SHORT.
 use Prim.Native.Nat.{ℕ, _<_}
 use mathlib.Core.Bool.{false, not}
 use mathlib.Core.Path.{_≡_}
 use mathlib.Core.List.{List, [], _∷_, map}
 use lib.IntN.{ℤ}
-use lib.Dec.{T, leb}
+use lib.Dec.{T}
 use lib.Ieee.{Float, nan, inf, fin, binary32, sub, lt}
 use lib.ListN.{length, getD}
 use Rattle.ground.specs.declared.Cell.{Cell}
-use Rattle.ground.specs.Answer.{pick, kept, written}
-use Rattle.ground.specs.Refusal.{ACCEPTED, LENGTH, OUTPUT-SHORT}
+use Rattle.ground.specs.declared.Counted.{Counted}
+use Rattle.ground.specs.Answer.{counted, kept, written, short}
+use Rattle.ground.specs.Refusal.{LENGTH, OUTPUT-SHORT, _gives_, firstOf}
 use Rattle.ground.specs.Digits.{digitsOf}
-use Rattle.gray.specs.declared.ConstellationOrder.{ConstellationOrder}
+use Rattle.ground.specs.declared.ConstellationOrder.{ConstellationOrder}
 use Rattle.gray.specs.Levels.{isSize, orderOf, axisBits, levels, coordinate}
 
 -- the magnitude, as f32's abs
@@ -43,9 +44,13 @@ weave [] s = s
 weave (a ∷ r) [] = a ∷ r
 weave (a ∷ r) (b ∷ s) = a ∷ b ∷ weave r s
 
+-- the n low bits of an index on I and of one on Q in turn, high first
+abbrev pub bitsInTurn : ℕ → ℕ → ℕ → List ℕ
+bitsInTurn n i q = weave (digitsOf n i) (digitsOf n q)
+
 -- the bits of an index on I and one on Q
 abbrev pub bitsOf : ConstellationOrder → ℕ → ℕ → List ℕ
-bitsOf o i q = weave (digitsOf (axisBits o) i) (digitsOf (axisBits o) q)
+bitsOf o i q = bitsInTurn (axisBits o) i q
 
 -- the new output is the old one with the bits of the first least indices at its front
 pub record Wrote (o : ConstellationOrder) (sym : Cell) (old new : List ℕ) : Type 0 where
@@ -55,10 +60,13 @@ pub record Wrote (o : ConstellationOrder) (sym : Cell) (old new : List ℕ) : Ty
   pub q-first : First (distances o (sym .im)) q
   pub output : new ≡ written (bitsOf o i q) old
 
--- the number of a call with a group of v bits and an output of n
-abbrev pub demapNo : ℕ → ℕ → ℕ
-demapNo v n = pick (isSize v) (pick (leb v n) ACCEPTED OUTPUT-SHORT) LENGTH
+-- ---- demapping a cell to v bits in a lent output: its number, the bits written, and the output, which is written
+-- where the call is accepted, else unchanged
+abbrev pub demapNo : ℕ → List ℕ → ℕ
+demapNo v out = firstOf (not (isSize v) gives LENGTH ∷ short v out gives OUTPUT-SHORT ∷ [])
 
--- the lent output afterwards: written where the call is accepted, else unchanged
+abbrev pub demapAnswer : ℕ → List ℕ → Counted
+demapAnswer v out = counted (demapNo v out) v
+
 abbrev pub Demapped : Cell → ℕ → List ℕ → List ℕ → Type 0
-Demapped sym v old new = kept (demapNo v (length old)) (Wrote (orderOf v) sym old new) (new ≡ old)
+Demapped sym v old new = kept (demapNo v old) (Wrote (orderOf v) sym old new) (new ≡ old)

@@ -1,15 +1,14 @@
--- Document 01, 'Gray mapping'; EN 300 744, section 4.3.5 and figure 9a: the levels of an axis, the scales and the coordinates.
--- Numbers are IEEE binary32, and each operation rounds once.
+-- Document 01, 'Gray mapping'; EN 300 744, section 4.3.5 and figure 9a: the levels of an axis, the scales and the
+-- coordinates. Numbers are IEEE binary32, and each operation rounds once.
 use Prim.Native.Nat.{ℕ}
-use mathlib.Core.Bool.{Bool, _||_}
+use mathlib.Core.Bool.{Bool, _||_, cond}
 use mathlib.Core.List.{List, [], _∷_}
 use lib.IntN.{ℤ, pos, negsuc}
 use lib.Dec.{eqb}
 use lib.ListN.{getD}
 use lib.Ieee.{Float, binary32, ofBits, ofInt, mul}
-use Rattle.ground.specs.Answer.{pick}
-use Rattle.gray.specs.declared.ConstellationOrder.{ConstellationOrder}
-use Rattle.gray.specs.declared.ConstellationOrder.the-variants.{Qpsk, Qam16, Qam64}
+use Rattle.ground.specs.declared.ConstellationOrder.{ConstellationOrder}
+use Rattle.ground.specs.declared.ConstellationOrder.the-variants.{Qpsk, Qam16, Qam64}
 
 -- a bit group has 2, 4 or 6 bits
 abbrev pub isSize : ℕ → Bool
@@ -17,7 +16,7 @@ isSize v = eqb v 2 || (eqb v 4 || eqb v 6)
 
 -- the constellation of a group size
 abbrev pub orderOf : ℕ → ConstellationOrder
-orderOf v = pick (eqb v 2) Qpsk (pick (eqb v 4) Qam16 Qam64)
+orderOf v = cond (eqb v 2) Qpsk (cond (eqb v 4) Qam16 Qam64)
 
 -- how many bits of a group belong to each axis
 abbrev pub axisBits : ConstellationOrder → ℕ

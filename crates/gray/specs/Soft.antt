@@ -1,18 +1,19 @@
--- Document 01, 'Gray mapping': the soft value of a bit is (least squared distance to a level whose bit is 1) minus (the same for 0), in f32,
--- one rounding an operation. Another group size is LENGTH.
+-- Document 01, 'Gray mapping': the soft value of a bit is (least squared distance to a level whose bit is 1) minus
+-- (the same for 0), in f32, one rounding an operation. Another group size is LENGTH.
 use Prim.Native.Nat.{ℕ, suc, _/_, _%_, _^_, _<_}
 use mathlib.Core.Bool.{Bool, true, false, not, _&&_, cond}
 use mathlib.Core.Path.{_≡_}
 use mathlib.Core.List.{List, [], _∷_, map}
-use lib.IntN.{ℤ, pos}
+use lib.IntN.{ℤ}
 use lib.Dec.{T, eqb}
-use lib.Ieee.{Float, inf, fin, binary32, sub, mul, lt}
+use lib.Ieee.{Float, inf, binary32, sub, mul, lt}
 use lib.ListN.{length}
 use Rattle.ground.specs.declared.Cell.{Cell}
-use Rattle.ground.specs.Answer.{pick, kept}
-use Rattle.ground.specs.Refusal.{ACCEPTED, LENGTH}
-use Rattle.gray.specs.declared.ConstellationOrder.{ConstellationOrder}
-use Rattle.gray.specs.declared.ConstellationOrder.the-variants.{Qpsk, Qam16, Qam64}
+use Rattle.ground.specs.Answer.{kept}
+use Rattle.ground.specs.Cells.{plusZero}
+use Rattle.ground.specs.Refusal.{LENGTH, _gives_, firstOf}
+use Rattle.ground.specs.declared.ConstellationOrder.{ConstellationOrder}
+use Rattle.ground.specs.declared.ConstellationOrder.the-variants.{Qpsk, Qam16, Qam64}
 use Rattle.gray.specs.declared.Soft.{Soft}
 use Rattle.gray.specs.declared.Soft.the-variants.{Two, Four, Six, Refused}
 use Rattle.gray.specs.Levels.{isSize, orderOf, levels, coordinate}
@@ -24,7 +25,7 @@ square x p = let d = sub binary32 x p in mul binary32 d d
 -- of the levels from index k on, those whose index has the bit b at place s, place 0 being the lowest
 abbrev pub having : ℕ → ℕ → ℕ → List ℤ → List ℤ
 having s b k [] = []
-having s b k (l ∷ ls) = pick (eqb (k / 2 ^ s % 2) b) (l ∷ having s b (suc k) ls) (having s b (suc k) ls)
+having s b k (l ∷ ls) = cond (eqb (k / 2 ^ s % 2) b) (l ∷ having s b (suc k) ls) (having s b (suc k) ls)
 
 -- the squared distances of x to the levels whose bit at place s is b
 unfoldable pub squares : ConstellationOrder → ℕ → ℕ → Float → List Float
@@ -58,33 +59,28 @@ softAt Qam64 c =
     Six (soft Qam64 2 (c .re)) (soft Qam64 2 (c .im)) (soft Qam64 1 (c .re)) (soft Qam64 1 (c .im)) (soft Qam64 0 (c .re)) (soft Qam64 0 (c .im))
 
 -- document 01's number and the values, for each case of the answer
-abbrev pub numberOf : Soft → ℕ
-numberOf (Two a b) = 0
-numberOf (Four a b c d) = 0
-numberOf (Six a b c d e f) = 0
-numberOf (Refused k) = k
+abbrev pub softNumberOf : Soft → ℕ
+softNumberOf (Two a b) = 0
+softNumberOf (Four a b c d) = 0
+softNumberOf (Six a b c d e f) = 0
+softNumberOf (Refused k) = k
 
-abbrev pub valuesOf : Soft → List Float
-valuesOf (Two a b) = a ∷ b ∷ []
-valuesOf (Four a b c d) = a ∷ b ∷ c ∷ d ∷ []
-valuesOf (Six a b c d e f) = a ∷ b ∷ c ∷ d ∷ e ∷ f ∷ []
-valuesOf (Refused k) = []
+abbrev pub softValuesOf : Soft → List Float
+softValuesOf (Two a b) = a ∷ b ∷ []
+softValuesOf (Four a b c d) = a ∷ b ∷ c ∷ d ∷ []
+softValuesOf (Six a b c d e f) = a ∷ b ∷ c ∷ d ∷ e ∷ f ∷ []
+softValuesOf (Refused k) = []
 
--- the number of a call with a group of v bits
+-- ---- soft demapping of a cell to v bits: its number, and the values where that is 0, else the refusal
 abbrev pub softNo : ℕ → ℕ
-softNo v = pick (isSize v) ACCEPTED LENGTH
+softNo v = firstOf (not (isSize v) gives LENGTH ∷ [])
 
--- what soft demapping answers: the values where the number is 0, else the refusal
-abbrev pub softOf : Cell → ℕ → Soft
-softOf c v = kept (softNo v) (softAt (orderOf v) c) (Refused (softNo v))
+abbrev pub softAnswer : Cell → ℕ → Soft
+softAnswer c v = kept (softNo v) (softAt (orderOf v) c) (Refused (softNo v))
 
--- ---- signs
-abbrev pub zero32 : Float
-zero32 = fin false 0 (pos 0)
-
--- a soft value is positive for the bit 0 and negative for the bit 1
+-- ---- signs: a soft value is positive for the bit 0 and negative for the bit 1
 abbrev pub signRight : ℕ → Float → Bool
-signRight b v = pick (eqb b 0) (lt zero32 v) (lt v zero32)
+signRight b v = cond (eqb b 0) (lt plusZero v) (lt v plusZero)
 
 abbrev pub signsRight : List ℕ → List Float → Bool
 signsRight [] [] = true

@@ -1,28 +1,22 @@
-// Gray mapping of EN 300 744, section 4.3.5 and figure 9a: a bit group to a point, and a received cell to bits or to soft values.
+// Gray mapping of EN 300 744, section 4.3.5 and figure 9a: a bit group to a point, and a received cell to bits or to
+// soft values.
 ghost use mathlib.Core.Path.{_≡_};
 ghost use mathlib.Core.Bool.{cond};
 ghost use Prim.Native.Nat.{_+_, _*_, _%_, _^_, _≤_, _<_};
-ghost use mathlib.Core.List.{_++_};
 ghost use lib.IntN.{pos};
-ghost use lib.ListN.{length, getD, drop};
+ghost use lib.ListN.{length, getD};
 ghost use lib.Ieee.{binary32, ofInt, lt};
-ghost use Rattle.ground.specs.Answer.{counted, kept};
+ghost use Rattle.ground.specs.Answer.{written, fillAnswer};
 ghost use Rattle.ground.specs.Bits.{Bits};
-ghost use Rattle.ground.specs.Digits.{valueOf, digitsOf};
+ghost use Rattle.ground.specs.Digits.{valueOf};
 ghost use Rattle.gray.specs.Levels.{axisBits, levels, scale, at};
-ghost use Rattle.gray.specs.Mapping.{everyOther, mappedOf};
-ghost use Rattle.gray.specs.Hard.{weave, distances, First, demapNo, Wrote, Demapped};
-ghost use Rattle.gray.specs.Soft.{square, lesser, soft, softOf};
-ghost use Rattle.gray.specs.Inner.{placed, away, Leads, roomNo};
+ghost use Rattle.gray.specs.Mapping.{everyOther, mapAnswer};
+ghost use Rattle.gray.specs.Hard.{distances, First, bitsInTurn, demapAnswer, Demapped};
+ghost use Rattle.gray.specs.Soft.{square, lesser, soft, softAnswer};
+ghost use Rattle.gray.specs.Inner.{mapAnswerAt, DemappedAt, apartAt, FirstBetween};
 use ground::Cell;
+use ground::ConstellationOrder;
 use ground::Counted;
-
-// A DVB-T constellation.
-pub enum ConstellationOrder {
-    Qpsk,
-    Qam16,
-    Qam64,
-}
 
 // A point with its two coordinates, or the refusal's number.
 pub enum Mapped {
@@ -137,7 +131,7 @@ fn axis_index(bits: &[u8], first: usize, count: usize) -> usize
 // The point of a bit group whose size is that of the constellation.
 fn place(order: ConstellationOrder, bits: &[u8]) -> Mapped
     requires { ⌜ 2 * axisBits order ≤ length (now bits) ⌝ }
-    ensures { λ r. ⌜ r ≡ placed order (now (bits .entry)) ⌝ }
+    ensures { λ r. ⌜ r ≡ mapAnswerAt order (now (bits .entry)) ⌝ }
 {
     if ground::inner::all_bits(bits) {
         let count = axis_bits(order);
@@ -151,7 +145,7 @@ fn place(order: ConstellationOrder, bits: &[u8]) -> Mapped
 
 // The point of a group of two, four or six bits, EN 300 744 section 4.3.5.
 pub fn dvb_t_map_symbol(bits: &[u8]) -> Mapped
-    ensures { λ r. ⌜ r ≡ mappedOf (now (bits .entry)) ⌝ }
+    ensures { λ r. ⌜ r ≡ mapAnswer (now (bits .entry)) ⌝ }
 {
     let n = bits.len();
     if n == 2 {
@@ -169,7 +163,7 @@ pub fn dvb_t_map_symbol(bits: &[u8]) -> Mapped
 // An index of the axis as a candidate for x.
 fn candidate_at(order: ConstellationOrder, x: f32, index: usize) -> Candidate
     requires { ⌜ index < length (levels order) ⌝ }
-    ensures { λ r. ⌜ (r .index ≡ index) × (r .apart ≡ away order x index) ⌝ }
+    ensures { λ r. ⌜ (r .index ≡ index) × (r .apart ≡ apartAt order x index) ⌝ }
 {
     let difference = x - axis_point(order, index);
     let opposite = -difference;
@@ -196,7 +190,7 @@ fn nearer(a: Candidate, b: Candidate) -> Candidate
 // The nearest of the two indices from one on.
 fn nearest_of_two(order: ConstellationOrder, x: f32, index: usize) -> Candidate
     requires { ⌜ index + 2 ≤ length (levels order) ⌝ }
-    ensures { λ r. ⌜ Leads order x index (index + 2) r ⌝ }
+    ensures { λ r. ⌜ FirstBetween order x index (index + 2) r ⌝ }
 {
     nearer(
         candidate_at(order, x, index),
@@ -207,7 +201,7 @@ fn nearest_of_two(order: ConstellationOrder, x: f32, index: usize) -> Candidate
 // The nearest of the four indices from one on.
 fn nearest_of_four(order: ConstellationOrder, x: f32, index: usize) -> Candidate
     requires { ⌜ index + 4 ≤ length (levels order) ⌝ }
-    ensures { λ r. ⌜ Leads order x index (index + 4) r ⌝ }
+    ensures { λ r. ⌜ FirstBetween order x index (index + 4) r ⌝ }
 {
     nearer(
         nearest_of_two(order, x, index),
@@ -217,7 +211,7 @@ fn nearest_of_four(order: ConstellationOrder, x: f32, index: usize) -> Candidate
 
 // The nearest of the eight indices of a 64-QAM axis.
 fn nearest_of_eight(x: f32) -> Candidate
-    ensures { λ r. ⌜ Leads ConstellationOrder.Qam64 x 0 8 r ⌝ }
+    ensures { λ r. ⌜ FirstBetween ConstellationOrder.Qam64 x 0 8 r ⌝ }
 {
     nearer(
         nearest_of_four(ConstellationOrder::Qam64, x, 0),
@@ -255,7 +249,7 @@ fn low_bit(x: usize) -> u8
 // The low bits of two indices, high first, in turn.
 fn write_bits(count: usize, i: usize, q: usize, out: &mut [u8])
     requires { ⌜ (count ≤ 3) × (2 * count ≤ length (now out)) ⌝ }
-    ensures { λ _. ⌜ now (out .exit) ≡ weave (digitsOf count i) (digitsOf count q) ++ drop (2 * count) (now (out .entry)) ⌝ }
+    ensures { λ _. ⌜ now (out .exit) ≡ written (bitsInTurn count i q) (now (out .entry)) ⌝ }
 {
     let mut j: usize = 0;
     while j < count {
@@ -268,8 +262,8 @@ fn write_bits(count: usize, i: usize, q: usize, out: &mut [u8])
 
 // The bits of the nearest point of a constellation, written at the front of the output where it has room.
 fn demap(order: ConstellationOrder, sym: Cell, out: &mut [u8]) -> Counted
-    ensures { λ r. ⌜ r ≡ counted (roomNo order (length (now (out .entry)))) (2 * axisBits order) ⌝ }
-    ensures { λ _. ⌜ kept (roomNo order (length (now (out .entry)))) (Wrote order sym (now (out .entry)) (now (out .exit))) (now (out .exit) ≡ now (out .entry)) ⌝ }
+    ensures answer { λ r. ⌜ r ≡ fillAnswer (2 * axisBits order) (now (out .entry)) ⌝ }
+    ensures output { λ _. ⌜ DemappedAt order sym (now (out .entry)) (now (out .exit)) ⌝ }
 {
     let count = axis_bits(order);
     let v = 2 * count;
@@ -286,8 +280,8 @@ fn demap(order: ConstellationOrder, sym: Cell, out: &mut [u8]) -> Counted
 
 // The bits of the nearest point of a received cell, EN 300 744 section 4.3.5.
 pub fn dvb_t_demap_symbol(sym: Cell, v: usize, out: &mut [u8]) -> Counted
-    ensures { λ r. ⌜ r ≡ counted (demapNo v (length (now (out .entry)))) v ⌝ }
-    ensures { λ _. ⌜ Demapped sym v (now (out .entry)) (now (out .exit)) ⌝ }
+    ensures answer { λ r. ⌜ r ≡ demapAnswer v (now (out .entry)) ⌝ }
+    ensures output { λ _. ⌜ Demapped sym v (now (out .entry)) (now (out .exit)) ⌝ }
 {
     if v == 2 {
         return demap(ConstellationOrder::Qpsk, sym, out);
@@ -333,7 +327,8 @@ fn soft_qpsk(x: f32) -> f32
 
 // The soft values of a 16-QAM axis.
 fn soft_qam16(x: f32) -> Pair
-    ensures { λ r. ⌜ (r .high ≡ soft ConstellationOrder.Qam16 1 x) × (r .low ≡ soft ConstellationOrder.Qam16 0 x) ⌝ }
+    ensures high { λ r. ⌜ r .high ≡ soft ConstellationOrder.Qam16 1 x ⌝ }
+    ensures low { λ r. ⌜ r .low ≡ soft ConstellationOrder.Qam16 0 x ⌝ }
 {
     let zero = squared(ConstellationOrder::Qam16, x, 0);
     let one = squared(ConstellationOrder::Qam16, x, 1);
@@ -346,7 +341,9 @@ fn soft_qam16(x: f32) -> Pair
 
 // The soft values of a 64-QAM axis.
 fn soft_qam64(x: f32) -> Triple
-    ensures { λ r. ⌜ (r .high ≡ soft ConstellationOrder.Qam64 2 x) × (r .middle ≡ soft ConstellationOrder.Qam64 1 x) × (r .low ≡ soft ConstellationOrder.Qam64 0 x) ⌝ }
+    ensures high { λ r. ⌜ r .high ≡ soft ConstellationOrder.Qam64 2 x ⌝ }
+    ensures middle { λ r. ⌜ r .middle ≡ soft ConstellationOrder.Qam64 1 x ⌝ }
+    ensures low { λ r. ⌜ r .low ≡ soft ConstellationOrder.Qam64 0 x ⌝ }
 {
     let zero = squared(ConstellationOrder::Qam64, x, 0);
     let one = squared(ConstellationOrder::Qam64, x, 1);
@@ -364,7 +361,7 @@ fn soft_qam64(x: f32) -> Triple
 
 // The soft values of a received cell, in the order of the bits.
 pub fn dvb_t_soft_llr(sym: Cell, v: usize) -> Soft
-    ensures { λ r. ⌜ r ≡ softOf sym v ⌝ }
+    ensures { λ r. ⌜ r ≡ softAnswer sym v ⌝ }
 {
     let re = sym.re;
     let im = sym.im;

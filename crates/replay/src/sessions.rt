@@ -1,18 +1,44 @@
-// The cases of the receive session: a script of calls on a new session, a byte each, where 255 resets, 254 steps back, and any lower byte feeds the
-// symbol of its number; the last one feeds. The answer is the phase of the last feed, its bit, its data and all bits.
-ghost use Prim.Native.Nat.{_≤_};
-ghost use lib.ListN.{length};
-use crate::signals;
+// The case of the receive session: a script of calls on a new session, a byte each, where 255 resets, 254 steps back,
+// and any lower byte feeds the symbol of its number. The answer is what the last feed gives, which is its data, its
+// phase, its bit and how many symbols stand, and all bits.
+use crate::floats;
+use crate::packets;
 use crate::symbols;
+use ground::Counted;
 use session::Session;
+use tps::TpsBit;
+
+// Lays the phase in which a symbol is fed, its bit, or 255, and how many symbols stand then.
+fn put_fed(phase: usize, answer: TpsBit, standing: usize, room: &mut [u8; 16384]) -> Counted {
+    let bit = match answer {
+        TpsBit::Bit(bit) => bit,
+        TpsBit::Refused(_) => 255,
+    };
+    packets::put(
+        &[(phase % 256) as u8, bit, (standing % 256) as u8],
+        12096,
+        room,
+    )
+}
+
+// The session after the symbol of a number.
+fn fed(session: Session, number: u8, journal: &mut [f32; 2312], room: &mut [u8; 16384]) -> Session {
+    let symbol = symbols::symbol_of(number);
+    let mut data = [0.5f32; 3024];
+    let fed = session.feed(&symbol, &mut data, journal);
+    let answer = fed.answer;
+    let after = fed.session;
+    floats::put(&data, 0, room);
+    put_fed(session.phase(), answer, after.count, room);
+    after
+}
 
 // The session after a call.
-fn after_call(
+fn called(
     session: Session,
     call: u8,
-    symbol: &mut [f32],
-    data: &mut [f32],
-    journal: &mut [f32],
+    journal: &mut [f32; 2312],
+    room: &mut [u8; 16384],
 ) -> Session {
     if call == 255 {
         return session.reset();
@@ -22,92 +48,23 @@ fn after_call(
         let after = stepped.session;
         return after;
     }
-    symbols::put_symbol(call, symbol);
-    let fed = session.feed(symbol, data, journal);
-    let after = fed.session;
-    after
+    fed(session, call, journal, room)
 }
 
-// The session after the first calls of a script.
-fn after_calls(
-    script: &[u8],
-    calls: usize,
-    symbol: &mut [f32],
-    data: &mut [f32],
-    journal: &mut [f32],
-) -> Session
-    requires { ⌜ calls ≤ length (now script) ⌝ }
-{
+// Lays all bits.
+fn put_bits(bits: [u8; 68], room: &mut [u8; 16384]) -> Counted {
+    packets::put(&bits, 12099, room)
+}
+
+// Session.
+pub(crate) fn session(script: &[u8], room: &mut [u8; 16384]) -> Counted {
+    let mut journal = [0.5f32; 2312];
     let mut session = Session::new();
     let mut i = 0;
-    while i < calls {
-        session = after_call(session, script[i], symbol, data, journal);
+    while i < script.len() {
+        session = called(session, script[i], &mut journal, room);
         i += 1;
     }
-    session
-}
-
-// Whether a session has the stored bits standing.
-fn stands(session: Session, stored: &[u8]) -> bool {
-    if session.count != stored.len() {
-        return false;
-    }
-    let held = session.bits;
-    signals::are_bits(held, stored)
-}
-
-// Whether a session's phase is the stored one.
-fn is_phase(session: Session, stored: u8) -> bool {
-    session.phase() == stored as usize
-}
-
-// Whether a symbol's feed gives the stored phase, bit, data and bits.
-fn is_fed(
-    session: Session,
-    number: u8,
-    output: &[u8],
-    symbol: &mut [f32],
-    data: &mut [f32],
-    journal: &mut [f32],
-) -> bool {
-    if output.len() < 3026 {
-        return false;
-    }
-    if !is_phase(session, output[0]) {
-        return false;
-    }
-    symbols::put_symbol(number, symbol);
-    let fed = session.feed(symbol, data, journal);
-    let answer = fed.answer;
-    let after = fed.session;
-    if !signals::is_bit(answer, output[1]) {
-        return false;
-    }
-    if !symbols::are_at(data, number, &output[2..3026]) {
-        return false;
-    }
-    stands(after, &output[3026..])
-}
-
-// Session: what the last feed of a script gives.
-pub(crate) fn session(script: &[u8], output: &[u8]) -> bool {
-    if script.len() == 0 {
-        return false;
-    }
-    let last = script.len() - 1;
-    if script[last] > 253 {
-        return false;
-    }
-    let mut symbol = [0.0f32; 4096];
-    let mut data = [0.5f32; 3024];
-    let mut journal = [0.5f32; 2312];
-    let before = after_calls(script, last, &mut symbol, &mut data, &mut journal);
-    is_fed(
-        before,
-        script[last],
-        output,
-        &mut symbol,
-        &mut data,
-        &mut journal,
-    )
+    let bits = session.bits;
+    put_bits(bits, room)
 }

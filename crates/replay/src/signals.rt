@@ -1,141 +1,57 @@
-// The cases of TPS's sender and receiver: a symbol's 17 cells stand as 136 bytes, re and im of each in turn.
-ghost use mathlib.Core.Path.{_≡_};
+// The cases of TPS's sender and receiver: the 17 cells of a symbol stand as 34 floats, re and im of each in turn.
+ghost use Prim.Native.Nat.{_+_, _*_, _≤_, _<_};
 ghost use lib.ListN.{length};
 use crate::floats;
+use crate::table;
 use ground::Counted;
-use tps::TpsBit;
 use tps::TpsDecoder;
 use tps::TpsEncoder;
 
-// The sender behind a symbol, and whether the symbol was met.
-struct SentNext {
-    met: bool,
-    encoder: TpsEncoder,
-}
-
-// The receiver behind a symbol, and whether the symbol's bit was met.
-struct FedNext {
-    met: bool,
-    decoder: TpsDecoder,
-}
-
-// Whether an answer is a count.
-fn is_count(answer: Counted, count: usize) -> bool {
-    match answer {
-        Counted::Count(n) => n == count,
-        Counted::Refused(_) => false,
-    }
-}
-
-// Whether an answer is a bit.
-pub(crate) fn is_bit(answer: TpsBit, bit: u8) -> bool {
-    match answer {
-        TpsBit::Bit(found) => found == bit,
-        TpsBit::Refused(_) => false,
-    }
-}
-
-// One bit sent, its cells compared with stored ones.
-fn sent_next(encoder: TpsEncoder, bit: u8, stored: &[u8]) -> SentNext {
+// The sender after a bit, whose cells are laid as symbol k.
+fn sent(encoder: TpsEncoder, bit: u8, k: usize, room: &mut [u8; 16384]) -> TpsEncoder
+    requires { ⌜ k < 68 ⌝ }
+{
     let mut cells = [0.5f32; 34];
     let sent = encoder.next_symbol(bit, &mut cells);
-    let answer = sent.answer;
+    floats::put(&cells, 136 * k, room);
     let after = sent.encoder;
-    if is_count(answer, 17) {
-        return SentNext {
-            met: floats::are_floats(&cells, stored),
-            encoder: after,
-        };
-    }
-    SentNext {
-        met: false,
-        encoder: after,
-    }
+    after
 }
 
-// TpsEncoder: a run of bits from a new sender.
-pub(crate) fn send(input: &[u8], output: &[u8]) -> bool {
-    if output.len() % 136 != 0 {
-        return false;
-    }
-    if output.len() / 136 != input.len() {
-        return false;
+// TpsEncoder: the cells of a run of bits from a new sender.
+pub(crate) fn send(input: &[u8], room: &mut [u8; 16384]) -> Counted {
+    if 68 < input.len() {
+        return Counted::Count(table::NONE);
     }
     let mut encoder = TpsEncoder::new();
-    let mut i = 0;
-    while i < input.len() {
-        let from = 136 * i;
-        let next = sent_next(encoder, input[i], &output[from..from + 136]);
-        if !next.met {
-            return false;
-        }
-        let after = next.encoder;
-        encoder = after;
-        i += 1;
+    let mut k = 0;
+    while k < input.len() {
+        encoder = sent(encoder, input[k], k, room);
+        k += 1;
     }
-    true
+    Counted::Count(136 * k)
 }
 
-// One symbol received, its bit compared with the stored one.
-fn fed_next(decoder: TpsDecoder, stored: &[u8], bit: u8) -> FedNext
-    requires { ⌜ length (now stored) ≡ 136 ⌝ }
+// The receiver after symbol k.
+fn fed(decoder: TpsDecoder, input: &[u8], k: usize) -> TpsDecoder
+    requires { ⌜ 136 * k + 136 ≤ length (now input) ⌝ }
 {
-    let mut cells = [0.0f32; 34];
-    floats::put_floats(stored, &mut cells);
+    let cells = floats::floats_at(input, 136 * k);
     let fed = decoder.feed_symbol(&cells);
-    let answer = fed.answer;
     let after = fed.decoder;
-    FedNext {
-        met: is_bit(answer, bit),
-        decoder: after,
-    }
+    after
 }
 
-// Whether bits are the stored ones, and 0 behind them.
-pub(crate) fn are_bits(bits: [u8; 68], stored: &[u8]) -> bool {
-    if stored.len() > 68 {
-        return false;
-    }
-    let mut i = 0;
-    while i < 68 {
-        let bit = if i < stored.len() { stored[i] } else { 0 };
-        if bits[i] != bit {
-            return false;
-        }
-        i += 1;
-    }
-    true
-}
-
-// Whether a receiver gives the stored bits.
-fn has_bits(decoder: TpsDecoder, stored: &[u8]) -> bool {
-    let mut bits = [0u8; 68];
-    let answer = decoder.bits(&mut bits);
-    if is_count(answer, stored.len()) {
-        return are_bits(bits, stored);
-    }
-    false
-}
-
-// TpsDecoder: a run of symbols into a new receiver.
-pub(crate) fn receive(input: &[u8], output: &[u8]) -> bool {
+// TpsDecoder: the bits of a run of cells into a new receiver.
+pub(crate) fn receive(input: &[u8], room: &mut [u8; 16384]) -> Counted {
     if input.len() % 136 != 0 {
-        return false;
-    }
-    if input.len() / 136 != output.len() {
-        return false;
+        return Counted::Count(table::NONE);
     }
     let mut decoder = TpsDecoder::new();
-    let mut i = 0;
-    while i < output.len() {
-        let from = 136 * i;
-        let next = fed_next(decoder, &input[from..from + 136], output[i]);
-        if !next.met {
-            return false;
-        }
-        let after = next.decoder;
-        decoder = after;
-        i += 1;
+    let mut k = 0;
+    while k < input.len() / 136 {
+        decoder = fed(decoder, input, k);
+        k += 1;
     }
-    has_bits(decoder, output)
+    decoder.bits(room)
 }

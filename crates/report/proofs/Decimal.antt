@@ -1,6 +1,6 @@
 -- The digits that `io` writes are those of the report, at most 20 for a number of 64 bits. Assumes nothing.
 use mathlib.Core.Path.{_≡_, ap, _∙_, subst, subst⁻¹}
-use mathlib.Core.Bool.{Bool, true, false}
+use mathlib.Core.Bool.{Bool, true, false, cond}
 use mathlib.Core.List.{List, [], _∷_, _++_}
 use Prim.Native.Nat.{ℕ, zero, suc, _+_, _-_, _*_, _/_, _%_, _^_, _≤_, _<_}
 use native.Mathlib.Nat.{not-suc-le-zero, pow-suc, one-le-pow, pow-le-pow-right}
@@ -8,7 +8,6 @@ use native.Mathlib.Omega.{arith}
 use borrow.Author.Tests.{lt-ltb, le-ltb}
 use lib.Dec.{ltb}
 use lib.ListN.{length, length-append}
-use Rattle.ground.specs.Answer.{pick}
 use Rattle.io.specs.Digits.{digits, glyph, Fewest}
 use Rattle.report.specs.Text.{decimalBy, decimal}
 
@@ -46,7 +45,7 @@ pub digits-are-decimal : (n k : ℕ) → k ≤ 20 → Fewest 10 1 n k → digits
 unfolding decimal
 digits-are-decimal n k h f = digits-decimal 20 k n h (f .0) (f .1) (f .2)
 
-at-most : (t : Bool) (a b : List ℕ) (k : ℕ) → length a ≤ k → length b ≤ k → length (pick t a b) ≤ k
+at-most : (t : Bool) (a b : List ℕ) (k : ℕ) → length a ≤ k → length b ≤ k → length (cond t a b) ≤ k
 at-most true a b k p q = p
 at-most false a b k p q = q
 

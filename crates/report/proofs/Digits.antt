@@ -1,19 +1,18 @@
 -- Which characters are digits, what they count, and the bits that digits say. Assumes nothing.
-use mathlib.Core.Path.{_≡_, refl, sym, ap, _∙_, subst}
-use mathlib.Core.Bool.{Bool, true, false, _&&_, _||_}
+use mathlib.Core.Path.{_≡_, refl, sym, ap, _∙_}
+use mathlib.Core.Bool.{Bool, true, false, _&&_, _||_, cond, false≢true, and-eq-true-iff}
 use mathlib.Core.List.{List, [], _∷_, _++_}
 use Prim.Native.Nat.{ℕ, zero, suc, _+_, _-_, _*_, _/_, _%_, _^_, _≤_, _<_}
 use native.Mathlib.Nat.{not-suc-le-zero, le-of-suc-le-suc}
 use native.Mathlib.Numerals.{add-one}
 use native.Mathlib.Omega.{arith}
-use lib.Dec.{T, leb}
+use lib.Dec.{leb}
 use borrow.Author.Tests.{le-leb, lt-leb, leb-true, leb-false}
 use lib.ListN.{length, take, drop, getD, set, drop-of-length-le, length-take}
 use lib.Seq.{drop-cons, take-suc, sets}
-use Rattle.ground.specs.Answer.{pick}
 use Rattle.ground.specs.Digits.{digitsOf}
 use Rattle.report.specs.Reading.{isDigit, digitValue, areDigits, bitsOf}
-use Rattle.report.proofs.Writing.{sets-append}
+use Rattle.report.proofs.Texts.{sets-append}
 
 -- ---- which characters are digits
 
@@ -35,19 +34,16 @@ digit-letter c h k = simp (le-leb 48 c (omega arith), lt-leb c 57 h, le-leb 97 c
 
 -- ---- what a digit counts
 
-never : {A : Type 0} → false ≡ true → A
-never h = absurd (subst (λ (x : Bool). T x) (sym h) tt)
-
 value-ways :
     (c : ℕ) (t₁ t₂ t₃ t₄ : Bool) → leb 48 c ≡ t₁ → leb c 57 ≡ t₂ → leb 97 c ≡ t₃ → leb c 102 ≡ t₄
-    → ((t₁ && t₂) || (t₃ && t₄)) ≡ true → c % 16 + c / 64 * 9 ≡ pick t₂ (c - 48) (10 + (c - 97))
+    → ((t₁ && t₂) || (t₃ && t₄)) ≡ true → c % 16 + c / 64 * 9 ≡ cond t₂ (c - 48) (10 + (c - 97))
 value-ways c true true t₃ t₄ e₁ e₂ e₃ e₄ h = omega (arith, leb-true 48 c e₁, leb-true c 57 e₂)
 value-ways c true false true true e₁ e₂ e₃ e₄ h = omega (arith, leb-true 97 c e₃, leb-true c 102 e₄)
-value-ways c true false true false e₁ e₂ e₃ e₄ h = never h
-value-ways c true false false t₄ e₁ e₂ e₃ e₄ h = never h
+value-ways c true false true false e₁ e₂ e₃ e₄ h = absurd (false≢true h)
+value-ways c true false false t₄ e₁ e₂ e₃ e₄ h = absurd (false≢true h)
 value-ways c false t₂ true true e₁ e₂ e₃ e₄ h = absurd (omega (arith, leb-false 48 c e₁, leb-true 97 c e₃))
-value-ways c false t₂ true false e₁ e₂ e₃ e₄ h = never h
-value-ways c false t₂ false t₄ e₁ e₂ e₃ e₄ h = never h
+value-ways c false t₂ true false e₁ e₂ e₃ e₄ h = absurd (false≢true h)
+value-ways c false t₂ false t₄ e₁ e₂ e₃ e₄ h = absurd (false≢true h)
 
 pub value-is : (c : ℕ) → isDigit c ≡ true → c % 16 + c / 64 * 9 ≡ digitValue c
 unfolding isDigit digitValue
@@ -69,14 +65,10 @@ module _ (l : List ℕ) (i : ℕ) (h : i < length l) (e : areDigits (drop i l) �
 pub digits-good : (l : List ℕ) (i : ℕ) → length l ≤ i → areDigits (drop i l) ≡ areDigits l → true ≡ areDigits l
 digits-good l i h e = ap areDigits (sym (drop-of-length-le l h)) ∙ e
 
-both : (t u : Bool) → (t && u) ≡ true → (t ≡ true) × (u ≡ true)
-both true u e = (refl, e)
-both false u e = never e
-
 pub digit-at : (l : List ℕ) (i : ℕ) → areDigits l ≡ true → i < length l → isDigit (getD l i 0) ≡ true
 digit-at [] i e h = absurd (not-suc-le-zero h)
-digit-at (c ∷ l) zero e h = both (isDigit c) (areDigits l) e .0
-digit-at (c ∷ l) (suc i) e h = digit-at l i (both (isDigit c) (areDigits l) e .1) (le-of-suc-le-suc h)
+digit-at (c ∷ l) zero e h = and-eq-true-iff (isDigit c) (areDigits l) .0 e .0
+digit-at (c ∷ l) (suc i) e h = digit-at l i (and-eq-true-iff (isDigit c) (areDigits l) .0 e .1) (le-of-suc-le-suc h)
 
 -- ---- the bits
 

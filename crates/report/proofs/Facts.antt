@@ -1,31 +1,30 @@
 -- Document 01's examples: an empty input, and the sample. Assumes nothing.
-use mathlib.Core.Path.{_≡_, refl, sym, ap, _∙_}
+use mathlib.Core.Path.{_≡_, refl, ap}
 use mathlib.Core.Bool.{true}
 use mathlib.Core.List.{List, [], _∷_, _++_, map}
 use Prim.Native.Nat.{ℕ, _≤_}
 use native.Mathlib.Omega.{arith}
 use lib.ListN.{length, replicate}
 use Rattle.ground.specs.Refusal.{BAD-LINE, NO-WORD}
-use Rattle.ground.specs.Answer.{numberOf}
-use Rattle.ground.proofs.Answers.{counted-says-number}
 use Rattle.ground.specs.Bits.{areBits}
 use Rattle.ground.specs.Digits.{digitsOf}
-use Rattle.bch.specs.Poly.{divisionStep}
+use Rattle.bch.specs.Polynomial.{divisionStep}
 use Rattle.bch.specs.Code.{Codeword, distance}
-use Rattle.bch.specs.Near.{Near, found, none, nearOf, nearNo, decodeAnswer, decodeLeaves}
-use Rattle.bch.proofs.Facts.{three, three-no-word}
-use Rattle.bch.proofs.Near.{near-is, decode-answers}
+use Rattle.bch.specs.NearCodeword.{found, none, nearOf}
+use Rattle.bch.proofs.Facts.{three, three-lone}
+use Rattle.bch.proofs.NearCodeword.{near-is, lone-none}
 use Rattle.ground.proofs.Bits.{bits-of}
-use Rattle.tps.specs.declared.Unpacked.{Unpacked}
-use Rattle.tps.specs.declared.Unpacked.the-variants.{Word, Refused}
-use Rattle.tps.specs.declared.ConstellationOrder.the-variants.{Qpsk}
-use Rattle.tps.specs.declared.PunctureRate.the-variants.{«R1_2»}
-use Rattle.tps.specs.declared.GuardInterval.the-variants.{«G1_32»}
-use Rattle.tps.specs.Reading.{answerOf, unpackOf}
+use Rattle.tps.specs.declared.word.Unpacked.{Unpacked}
+use Rattle.tps.specs.declared.word.Unpacked.the-variants.{Word, Refused}
+use Rattle.ground.specs.declared.ConstellationOrder.the-variants.{Qpsk}
+use Rattle.tps.specs.declared.word.PunctureRate.the-variants.{«R1_2»}
+use Rattle.tps.specs.declared.word.GuardInterval.the-variants.{«G1_32»}
+use Rattle.tps.specs.Packing.{nearAnswer, unpackAnswer}
 use Rattle.report.specs.Characters.{characters}
-use Rattle.report.specs.Reading.{isDigit, digitValue, readLine}
+use Rattle.report.specs.Reading.{isDigit, digitValue, readAnswer}
 use Rattle.report.specs.Text.{decimal, hexadecimal, cellText, pointsText, rateText, guardText, lineText, heading, closing}
-use Rattle.report.specs.Report.{answers, numbered, allRefusals, report}
+use Rattle.report.specs.Lines.{answers}
+use Rattle.report.specs.Report.{numbered, allRefusals, report}
 
 pub empty-input : report [] ≡ characters "line frame points rate guard cell\nread 0 refused 0\n"
 unfolding report heading closing decimal
@@ -67,38 +66,31 @@ generator-codeword = record { size = refl; bits = bits-of (replicate 52 0 ++ dig
 abbrev plain : Unpacked
 plain = Word (record { «frame_number» = 0; constellation = Qpsk; «code_rate_hp» = «R1_2»; guard = «G1_32»; «cell_id» = 0 })
 
-near-answer : (w c : List ℕ) → areBits w ≡ true → length w ≡ 67 → Codeword c → distance c w ≤ 2 → answerOf (nearOf w) ≡ answerOf (found c)
-near-answer w c b l h d = ap answerOf (near-is w (bits-of w b) l c h d)
+near-answer : (w c : List ℕ) → areBits w ≡ true → length w ≡ 67 → Codeword c → distance c w ≤ 2 → nearAnswer (nearOf w) ≡ nearAnswer (found c)
+near-answer w c b l h d = ap nearAnswer (near-is w (bits-of w b) l c h d)
 
-line-1 : readLine word-1 ≡ plain
-unfolding readLine isDigit digitValue unpackOf zeros
+line-1 : readAnswer word-1 ≡ plain
+unfolding readAnswer isDigit digitValue unpackAnswer zeros
 line-1 = near-answer (replicate 67 0) zeros refl refl zeros-codeword (omega arith)
 
-line-2 : readLine word-2 ≡ plain
-unfolding readLine isDigit digitValue unpackOf zeros
+line-2 : readAnswer word-2 ≡ plain
+unfolding readAnswer isDigit digitValue unpackAnswer zeros
 line-2 = near-answer (replicate 66 0 ++ (1 ∷ [])) zeros refl refl zeros-codeword (omega arith)
-
-none-by : (n : Near) → nearNo n ≡ NO-WORD → n ≡ none
-none-by (found c) e = absurd (omega (arith, e))
-none-by none e = refl
 
 -- small fact 6: the bits with only the degrees 7, 3 and 0 set are NO WORD
 three-none : nearOf three ≡ none
-three-none =
-    let o : List ℕ = replicate 53 0 in
-    let e = three-no-word o (decodeLeaves three o) (decodeAnswer three o) (omega arith) (decode-answers three o) .0 in
-    none-by (nearOf three) (sym (counted-says-number (nearNo (nearOf three)) 53) ∙ ap numberOf e)
+three-none = lone-none three three-lone
 
-line-3 : readLine word-3 ≡ Refused NO-WORD
-unfolding readLine isDigit digitValue unpackOf
-line-3 = ap answerOf three-none
+line-3 : readAnswer word-3 ≡ Refused NO-WORD
+unfolding readAnswer isDigit digitValue unpackAnswer
+line-3 = ap nearAnswer three-none
 
-line-4 : readLine word-4 ≡ Refused BAD-LINE
-unfolding readLine
+line-4 : readAnswer word-4 ≡ Refused BAD-LINE
+unfolding readAnswer
 line-4 = refl
 
-line-5 : readLine word-5 ≡ plain
-unfolding readLine isDigit digitValue unpackOf generator
+line-5 : readAnswer word-5 ≡ plain
+unfolding readAnswer isDigit digitValue unpackAnswer generator
 line-5 = near-answer (replicate 52 0 ++ digitsOf 15 0x4376) generator refl refl generator-codeword (omega arith)
 
 abbrev pub sample : List ℕ
@@ -106,8 +98,8 @@ sample = characters "00000000000000000\n00000000000000001\n00000000000000089\n80
 
 five-answers :
     (l₁ l₂ l₃ l₄ l₅ : List ℕ) (a₁ a₂ a₃ a₄ a₅ : Unpacked)
-    → readLine l₁ ≡ a₁ → readLine l₂ ≡ a₂ → readLine l₃ ≡ a₃ → readLine l₄ ≡ a₄ → readLine l₅ ≡ a₅
-    → map readLine (l₁ ∷ l₂ ∷ l₃ ∷ l₄ ∷ l₅ ∷ []) ≡ a₁ ∷ a₂ ∷ a₃ ∷ a₄ ∷ a₅ ∷ []
+    → readAnswer l₁ ≡ a₁ → readAnswer l₂ ≡ a₂ → readAnswer l₃ ≡ a₃ → readAnswer l₄ ≡ a₄ → readAnswer l₅ ≡ a₅
+    → map readAnswer (l₁ ∷ l₂ ∷ l₃ ∷ l₄ ∷ l₅ ∷ []) ≡ a₁ ∷ a₂ ∷ a₃ ∷ a₄ ∷ a₅ ∷ []
 five-answers l₁ l₂ l₃ l₄ l₅ a₁ a₂ a₃ a₄ a₅ e₁ e₂ e₃ e₄ e₅ = rw (e₁, e₂, e₃, e₄, e₅) refl
 
 sample-answers : answers sample ≡ plain ∷ plain ∷ Refused NO-WORD ∷ Refused BAD-LINE ∷ plain ∷ []

@@ -1,4 +1,5 @@
--- Document 01, 'Report program': its input and its output are characters, each one byte; a text stands here as the list of its characters' codes.
+-- Document 01, 'Report program': its input and its output are characters, each one byte; a text stands here as the
+-- list of its characters' codes.
 use mathlib.Core.List.{List, [], _∷_}
 use Prim.Native.Nat.{ℕ}
 use Prim.Native.Char.{code}

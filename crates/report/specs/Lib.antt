@@ -1,8 +1,10 @@
 pub mod Characters
 pub mod Reading
 pub mod Lines
+pub mod OpenLine
 pub mod Text
 pub mod Report
 pub mod Stream
+pub mod Calls
 pub mod Cutting
 pub mod Inner

@@ -1,17 +1,16 @@
--- Document 01, 'Report program': a received word is a line of 17 hexadecimal digits, the first digit's high bit s0. Any other line is BAD LINE, before any
--- other refusal.
-use mathlib.Core.Bool.{Bool, true, _&&_, _||_}
+-- Document 01, 'Report program': a received word is a line of 17 hexadecimal digits, the first digit's high bit s0.
+-- Any other line is BAD LINE, before any other refusal.
+use mathlib.Core.Bool.{Bool, true, _&&_, _||_, cond}
 use mathlib.Core.List.{List, [], _∷_, _++_}
 use Prim.Native.Nat.{ℕ, _+_, _-_}
 use Prim.Native.Char.{Char, code}
 use lib.Dec.{eqb, leb}
 use lib.ListN.{length}
 use Rattle.ground.specs.Refusal.{BAD-LINE}
-use Rattle.ground.specs.Answer.{pick}
 use Rattle.ground.specs.Digits.{digitsOf}
-use Rattle.tps.specs.declared.Unpacked.{Unpacked}
-use Rattle.tps.specs.declared.Unpacked.the-variants.{Word, Refused}
-use Rattle.tps.specs.Reading.{unpackOf}
+use Rattle.tps.specs.declared.word.Unpacked.{Unpacked}
+use Rattle.tps.specs.declared.word.Unpacked.the-variants.{Word, Refused}
+use Rattle.tps.specs.Packing.{unpackAnswer}
 
 -- the characters from one to another
 abbrev pub between : Char → Char → ℕ → Bool
@@ -23,7 +22,7 @@ isDigit c = between "0" "9" c || between "a" "f" c
 
 -- the number that a digit stands for
 unfoldable pub digitValue : ℕ → ℕ
-digitValue c = pick (leb c (code "9")) (c - code "0") (10 + (c - code "a"))
+digitValue c = cond (leb c (code "9")) (c - code "0") (10 + (c - code "a"))
 
 abbrev pub areDigits : List ℕ → Bool
 areDigits [] = true
@@ -35,8 +34,8 @@ bitsOf [] = []
 bitsOf (c ∷ l) = digitsOf 4 (digitValue c) ++ bitsOf l
 
 -- the answer to a line: that of unpacking its bits s0..s67, or BAD LINE
-unfoldable pub readLine : List ℕ → Unpacked
-readLine l = pick (eqb (length l) 17 && areDigits l) (unpackOf (bitsOf l)) (Refused BAD-LINE)
+unfoldable pub readAnswer : List ℕ → Unpacked
+readAnswer l = cond (eqb (length l) 17 && areDigits l) (unpackAnswer (bitsOf l)) (Refused BAD-LINE)
 
 -- how many refused lines an answer is
 abbrev pub refusals : Unpacked → ℕ

@@ -1,15 +1,11 @@
 -- Document 01, 'Report program': what is printed for a whole input.
-use mathlib.Core.List.{List, [], _∷_, _++_, map}
+use mathlib.Core.List.{List, [], _∷_, _++_}
 use Prim.Native.Nat.{ℕ, suc, _+_}
 use lib.ListN.{length}
-use Rattle.tps.specs.declared.Unpacked.{Unpacked}
-use Rattle.report.specs.Lines.{lines}
-use Rattle.report.specs.Reading.{readLine, refusals}
+use Rattle.tps.specs.declared.word.Unpacked.{Unpacked}
+use Rattle.report.specs.Lines.{answers}
+use Rattle.report.specs.Reading.{refusals}
 use Rattle.report.specs.Text.{heading, lineText, closing}
-
--- the answers to an input's lines, in turn
-abbrev pub answers : List ℕ → List Unpacked
-answers s = map readLine (lines s)
 
 -- the lines of answers, numbered from n on
 abbrev pub numbered : ℕ → List Unpacked → List ℕ

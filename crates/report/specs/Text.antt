@@ -1,23 +1,23 @@
 -- Document 01, 'Report program': the text of a line, of the heading and of the closing line.
+use mathlib.Core.Bool.{cond}
 use mathlib.Core.List.{List, [], _∷_, _++_}
 use Prim.Native.Nat.{ℕ, zero, suc, _+_, _-_, _/_, _%_}
 use Prim.Native.Char.{code}
 use lib.Dec.{ltb}
-use Rattle.ground.specs.Answer.{pick}
-use Rattle.tps.specs.declared.ConstellationOrder.{ConstellationOrder}
-use Rattle.tps.specs.declared.ConstellationOrder.the-variants.{Qpsk, Qam16, Qam64}
-use Rattle.tps.specs.declared.PunctureRate.{PunctureRate}
-use Rattle.tps.specs.declared.PunctureRate.the-variants.{«R1_2», «R2_3», «R3_4», «R5_6», «R7_8»}
-use Rattle.tps.specs.declared.GuardInterval.{GuardInterval}
-use Rattle.tps.specs.declared.GuardInterval.the-variants.{«G1_32», «G1_16», «G1_8», «G1_4»}
-use Rattle.tps.specs.declared.Unpacked.{Unpacked}
-use Rattle.tps.specs.declared.Unpacked.the-variants.{Word, Refused}
+use Rattle.ground.specs.declared.ConstellationOrder.{ConstellationOrder}
+use Rattle.ground.specs.declared.ConstellationOrder.the-variants.{Qpsk, Qam16, Qam64}
+use Rattle.tps.specs.declared.word.PunctureRate.{PunctureRate}
+use Rattle.tps.specs.declared.word.PunctureRate.the-variants.{«R1_2», «R2_3», «R3_4», «R5_6», «R7_8»}
+use Rattle.tps.specs.declared.word.GuardInterval.{GuardInterval}
+use Rattle.tps.specs.declared.word.GuardInterval.the-variants.{«G1_32», «G1_16», «G1_8», «G1_4»}
+use Rattle.tps.specs.declared.word.Unpacked.{Unpacked}
+use Rattle.tps.specs.declared.word.Unpacked.the-variants.{Word, Refused}
 use Rattle.report.specs.Characters.{characters, newline, space}
 
 -- the decimal digits of a number, of which there are at most k
 abbrev pub decimalBy : ℕ → ℕ → List ℕ
 decimalBy zero n = []
-decimalBy (suc k) n = pick (ltb n 10) ((code "0" + n) ∷ []) (decimalBy k (n / 10) ++ ((code "0" + n % 10) ∷ []))
+decimalBy (suc k) n = cond (ltb n 10) ((code "0" + n) ∷ []) (decimalBy k (n / 10) ++ ((code "0" + n % 10) ∷ []))
 
 -- a number below 10^20 in decimal, with no zero in front
 unfoldable pub decimal : ℕ → List ℕ
@@ -25,7 +25,7 @@ decimal n = decimalBy 20 n
 
 -- a hexadecimal digit, in lower case
 unfoldable pub hexadecimal : ℕ → ℕ
-hexadecimal d = pick (ltb d 10) (code "0" + d) (code "a" + (d - 10))
+hexadecimal d = cond (ltb d 10) (code "0" + d) (code "a" + (d - 10))
 
 -- a cell id in two digits
 unfoldable pub cellText : ℕ → List ℕ

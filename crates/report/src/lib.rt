@@ -1,13 +1,15 @@
-// The report on received TPS words: what a line of digits says, the text of its line, and the whole report of an input that comes in parts of any size.
+// The report on received TPS words: what a line of digits says, the text of its line, and the whole report of an input
+// that comes in parts of any size.
 ghost use mathlib.Core.Path.{_≡_};
-ghost use lib.ListN.{length};
-ghost use Rattle.report.specs.Reading.{readLine};
-ghost use Rattle.report.specs.Text.{lineText, heading};
-ghost use Rattle.report.specs.Stream.{fresh, textOf, closeText, textAnswer, textLeaves, lineRoom, partRoom, closeRoom, fedOf};
+ghost use Rattle.report.specs.Reading.{readAnswer};
+ghost use Rattle.report.specs.Stream.{fresh};
+ghost use Rattle.report.specs.Calls.{headingAnswer, headingLeaves, lineAnswer, lineLeaves};
+ghost use Rattle.report.specs.Calls.{feedAnswer, feedLeaves, closeAnswer, closeLeaves};
 use ground::Counted;
 use tps::TpsWord;
 use tps::Unpacked;
 
+pub mod inner;
 mod reading;
 mod stream;
 mod text;
@@ -17,8 +19,9 @@ const HEADING_LEN: usize = 34;
 // Room in bytes for every line of the report.
 const LINE_ROOM: usize = 60;
 
-// What the reader holds of the input so far: the open line's first 17 characters, how many it has (18 where they are more), how many lines ended, and how many of
-// those were refused.
+// What is held of the input so far: the open line's first 17 characters, how many it has, 18 where they are more, how
+// many lines ended, and how many of those were refused; behind 2^64 - 1 a count starts again. Of a reader that is made
+// by hand a count above 17 is read as 18.
 #[repr(C)]
 pub struct Reader {
     pub held: [u8; 17],
@@ -35,7 +38,7 @@ pub struct Fed {
 
 // What a line says: the word of its 17 digits, or the refusal.
 pub fn read_line(line: &[u8]) -> Unpacked
-    ensures { λ r. ⌜ r ≡ readLine (now (line .entry)) ⌝ }
+    ensures { λ r. ⌜ r ≡ readAnswer (now (line .entry)) ⌝ }
 {
     if line.len() != 17 {
         return Unpacked::Refused(ground::BAD_LINE);
@@ -49,8 +52,8 @@ pub fn read_line(line: &[u8]) -> Unpacked
 
 // Writes the report's heading.
 pub fn put_heading(out: &mut [u8]) -> Counted
-    ensures answer { λ r. ⌜ r ≡ textAnswer (length heading) heading (now (out .entry)) ⌝ }
-    ensures output { λ _. ⌜ now (out .exit) ≡ textLeaves (length heading) heading (now (out .entry)) ⌝ }
+    ensures answer { λ r. ⌜ r ≡ headingAnswer (now (out .entry)) ⌝ }
+    ensures output { λ _. ⌜ now (out .exit) ≡ headingLeaves (now (out .entry)) ⌝ }
 {
     if out.len() < HEADING_LEN {
         return Counted::Refused(ground::OUTPUT_SHORT);
@@ -60,8 +63,8 @@ pub fn put_heading(out: &mut [u8]) -> Counted
 
 // Writes the line of the report for a line's number and its answer.
 pub fn put_line(number: u64, answer: Unpacked, out: &mut [u8]) -> Counted
-    ensures answer { λ r. ⌜ r ≡ textAnswer lineRoom (lineText number answer) (now (out .entry)) ⌝ }
-    ensures output { λ _. ⌜ now (out .exit) ≡ textLeaves lineRoom (lineText number answer) (now (out .entry)) ⌝ }
+    ensures answer { λ r. ⌜ r ≡ lineAnswer number answer (now (out .entry)) ⌝ }
+    ensures output { λ _. ⌜ now (out .exit) ≡ lineLeaves number answer (now (out .entry)) ⌝ }
 {
     if out.len() < LINE_ROOM {
         return Counted::Refused(ground::OUTPUT_SHORT);
@@ -84,8 +87,8 @@ impl Reader {
 
     // Takes a part of the input, and writes the lines of the report for the lines that end in it.
     pub fn feed(self, part: &[u8], out: &mut [u8]) -> Fed
-        ensures answer { λ r. ⌜ r ≡ fedOf self (now (part .entry)) (now (out .entry)) ⌝ }
-        ensures output { λ _. ⌜ now (out .exit) ≡ textLeaves (partRoom (now (part .entry))) (textOf self (now (part .entry))) (now (out .entry)) ⌝ }
+        ensures answer { λ r. ⌜ r ≡ feedAnswer self (now (part .entry)) (now (out .entry)) ⌝ }
+        ensures output { λ _. ⌜ now (out .exit) ≡ feedLeaves self (now (part .entry)) (now (out .entry)) ⌝ }
     {
         if out.len() / LINE_ROOM < part.len() {
             return Fed {
@@ -93,18 +96,18 @@ impl Reader {
                 reader: self,
             };
         }
-        let taken = stream::take(self, part, out);
-        let reader = taken.reader;
+        let end = stream::put_part(self, part, out);
+        let reader = end.reader;
         Fed {
-            answer: Counted::Count(taken.at),
+            answer: Counted::Count(end.at),
             reader,
         }
     }
 
     // Ends the input: writes the line of a line that is open there, and the closing line.
     pub fn close(self, out: &mut [u8]) -> Counted
-        ensures answer { λ r. ⌜ r ≡ textAnswer closeRoom (closeText self) (now (out .entry)) ⌝ }
-        ensures output { λ _. ⌜ now (out .exit) ≡ textLeaves closeRoom (closeText self) (now (out .entry)) ⌝ }
+        ensures answer { λ r. ⌜ r ≡ closeAnswer self (now (out .entry)) ⌝ }
+        ensures output { λ _. ⌜ now (out .exit) ≡ closeLeaves self (now (out .entry)) ⌝ }
     {
         if out.len() < 2 * LINE_ROOM {
             return Counted::Refused(ground::OUTPUT_SHORT);

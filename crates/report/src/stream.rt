@@ -1,11 +1,14 @@
-// The input in parts: characters that are held until their line ends, and the lines' counts.
+// The report of an input in parts: the lines of the report for the lines that end, and their counts.
 ghost use mathlib.Core.Path.{_≡_};
 ghost use Prim.Native.Nat.{_+_, _≤_};
 ghost use lib.ListN.{length};
 ghost use Rattle.report.specs.Reading.{refusals};
-ghost use Rattle.report.specs.Stream.{answerOf, closeText, lineRoom, partRoom, closeRoom};
-ghost use Rattle.report.specs.Inner.{Put, Ends, Takes};
+ghost use Rattle.report.specs.Stream.{lineOf, closeText};
+ghost use Rattle.report.specs.Calls.{lineRoom, partRoom, closeRoom};
+ghost use Rattle.report.specs.Inner.{Put, Ends, PutsPart};
 use super::Reader;
+use super::inner;
+use super::inner::OpenLine;
 use super::text;
 use tps::Unpacked;
 
@@ -17,19 +20,20 @@ struct Ended {
 }
 
 // The reader after a part of the input, and the place behind the text.
-pub(crate) struct Taken {
+pub(crate) struct PartEnd {
     pub reader: Reader,
     pub at: usize,
 }
 
-// The answer to a line, by its first 17 characters and how many it has.
-fn answer_of(held: [u8; 17], count: usize) -> Unpacked
-    ensures { λ r. ⌜ r ≡ answerOf held count ⌝ }
+// The open line of a reader.
+fn line_of(reader: Reader) -> OpenLine
+    ensures { λ r. ⌜ r ≡ lineOf reader ⌝ }
 {
-    if count != 17 {
-        return Unpacked::Refused(ground::BAD_LINE);
+    let held = reader.held;
+    OpenLine {
+        held,
+        count: reader.count,
     }
-    super::read_line(&held)
 }
 
 // How many refused lines an answer is.
@@ -43,18 +47,11 @@ fn refusals_of(answer: Unpacked) -> u64
 }
 
 // Ends the open line: writes its line of the report, and counts it.
-fn end_line(
-    held: [u8; 17],
-    count: usize,
-    lines: u64,
-    refused: u64,
-    out: &mut [u8],
-    at: usize,
-) -> Ended
+fn end_line(line: OpenLine, lines: u64, refused: u64, out: &mut [u8], at: usize) -> Ended
     requires { ⌜ at + lineRoom ≤ length (now out) ⌝ }
-    ensures { λ r. ⌜ Ends held count lines refused (now (out .entry)) at r (now (out .exit)) ⌝ }
+    ensures { λ r. ⌜ Ends line lines refused (now (out .entry)) at r (now (out .exit)) ⌝ }
 {
-    let answer = answer_of(held, count);
+    let answer = line.answer();
     let number = std::num::wrapping_add_u64(lines, 1);
     let missed = std::num::wrapping_add_u64(refused, refusals_of(answer));
     let next = text::put_answer(out, at, number, answer);
@@ -66,36 +63,33 @@ fn end_line(
 }
 
 // Takes a part of the input, and writes the lines of the report from the output's front on.
-pub(crate) fn take(reader: Reader, part: &[u8], out: &mut [u8]) -> Taken
+pub(crate) fn put_part(reader: Reader, part: &[u8], out: &mut [u8]) -> PartEnd
     requires { ⌜ partRoom (now part) ≤ length (now out) ⌝ }
-    ensures { λ r. ⌜ Takes reader (now (part .entry)) (now (out .entry)) r (now (out .exit)) ⌝ }
+    ensures { λ r. ⌜ PutsPart reader (now (part .entry)) (now (out .entry)) r (now (out .exit)) ⌝ }
 {
-    let mut held = reader.held;
-    let mut count = reader.count;
+    let mut line = line_of(reader);
     let mut lines = reader.lines;
     let mut refused = reader.refused;
     let mut at = 0;
     let mut i = 0;
     while i < part.len() {
-        let character = part[i];
-        if character == b'\n' {
-            let ended = end_line(held, count, lines, refused, out, at);
+        let count = line.count;
+        let taken = inner::take(&mut line.held, count, part, i);
+        i = taken.next;
+        line.count = taken.count;
+        if taken.ended {
+            let ended = end_line(line, lines, refused, out, at);
             lines = ended.lines;
             refused = ended.refused;
             at = ended.at;
-            count = 0;
-        } else if count < 17 {
-            held[count] = character;
-            count += 1;
-        } else {
-            count = 18;
+            line.count = 0;
         }
-        i += 1;
     }
-    Taken {
+    let held = line.held;
+    PartEnd {
         reader: Reader {
             held,
-            count,
+            count: line.count,
             lines,
             refused,
         },
@@ -112,7 +106,6 @@ pub(crate) fn put_close(reader: Reader, out: &mut [u8]) -> usize
     if reader.count == 0 {
         return text::put_closing(out, 0, reader.lines, reader.refused);
     }
-    let held = reader.held;
-    let ended = end_line(held, reader.count, reader.lines, reader.refused, out, 0);
+    let ended = end_line(line_of(reader), reader.lines, reader.refused, out, 0);
     text::put_closing(out, ended.at, ended.lines, ended.refused)
 }

@@ -1,14 +1,14 @@
 // The texts of the report, each written into the lent output from a place on; the answer is the place behind it.
 ghost use mathlib.Core.Path.{_≡_};
-ghost use mathlib.Core.List.{[], _∷_, _++_};
+ghost use mathlib.Core.List.{_∷_};
 ghost use Prim.Native.Nat.{_+_, _≤_, _<_};
 ghost use lib.ListN.{length, take};
-ghost use Rattle.tps.specs.declared.Unpacked.the-variants.{Word, Refused};
-ghost use Rattle.report.specs.Characters.{newline, space};
-ghost use Rattle.report.specs.Text.{decimal, hexadecimal, cellText, pointsText, rateText, guardText, lineText, closing};
-ghost use Rattle.report.specs.Stream.{lineRoom};
-ghost use Rattle.report.specs.Inner.{Put};
-use tps::ConstellationOrder;
+ghost use Rattle.tps.specs.declared.word.Unpacked.the-variants.{Word, Refused};
+ghost use Rattle.report.specs.Characters.{space};
+ghost use Rattle.report.specs.Text.{decimal, hexadecimal, pointsText, rateText, guardText, lineText, closing};
+ghost use Rattle.report.specs.Calls.{lineRoom};
+ghost use Rattle.report.specs.Inner.{Put, columnsText, cellColumn};
+use ground::ConstellationOrder;
 use tps::GuardInterval;
 use tps::PunctureRate;
 use tps::TpsWord;
@@ -101,7 +101,7 @@ fn put_columns(
     guard: GuardInterval,
 ) -> usize
     requires { ⌜ at + 15 ≤ length (now out) ⌝ }
-    ensures text { λ r. ⌜ Put (now (out .entry)) at (space ∷ (pointsText constellation ++ (space ∷ (rateText rate ++ (space ∷ guardText guard))))) (now (out .exit)) r ⌝ }
+    ensures text { λ r. ⌜ Put (now (out .entry)) at (columnsText constellation rate guard) (now (out .exit)) r ⌝ }
     ensures room { λ r. ⌜ r ≤ at + 15 ⌝ }
 {
     let points_end = put_column(out, at, points_column(constellation));
@@ -123,7 +123,7 @@ fn hexadecimal_digit(digit: u8) -> u8
 // Writes a space, the column of a cell id, and a newline.
 fn put_cell(out: &mut [u8], at: usize, cell_id: u8) -> usize
     requires { ⌜ at + 4 ≤ length (now out) ⌝ }
-    ensures text { λ r. ⌜ Put (now (out .entry)) at (space ∷ (cellText «cell_id» ++ (newline ∷ []))) (now (out .exit)) r ⌝ }
+    ensures text { λ r. ⌜ Put (now (out .entry)) at (cellColumn «cell_id») (now (out .exit)) r ⌝ }
     ensures room { λ r. ⌜ r ≤ at + 4 ⌝ }
 {
     let high = hexadecimal_digit(cell_id / 16);

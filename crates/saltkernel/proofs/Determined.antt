@@ -4,9 +4,9 @@ use mathlib.Core.List.{List}
 use Prim.Native.Nat.{ℕ}
 use Rattle.ground.specs.Answer.{numberOf, countOf}
 use Rattle.bch.proofs.Determined.{decode-determined}
-use Rattle.tps.specs.declared.TpsDecoder.{TpsDecoder}
-use Rattle.tps.specs.declared.Unpacked.{Unpacked}
-use Rattle.tps.specs.Promise as promise
+use Rattle.tps.specs.declared.receiver.TpsDecoder.{TpsDecoder}
+use Rattle.tps.specs.declared.word.Unpacked.{Unpacked}
+use Rattle.tps.specs.Packing as packing
 use Rattle.tps.specs.Receive as receive
 use Rattle.tps.proofs.Determined.{unpack-determined, word-determined}
 use Rattle.session.specs.declared.Session.{Session}
@@ -24,11 +24,11 @@ one-unpacked : (meets : Unpacked → Type 0) → ((a b : Unpacked) → meets a �
 one-unpacked meets one r q x y =
     let e : x .answer ≡ y .answer = one (x .answer) (y .answer) (x .kept-promise) (y .kept-promise) in
     ap₂ (λ (n : ℕ) (w : SaltTpsWord). record { number = n; word = w })
-    (x .says .says-number ∙ ap promise.numberOf e ∙ sym (y .says .says-number))
+    (x .says .says-number ∙ ap packing.numberOf e ∙ sym (y .says .says-number))
     (x .says .says-word ∙ ap unpackedCodes e ∙ sym (y .says .says-word))
 
-pub salt-unpack-determined : (bits : List ℕ) (r q : SaltUnpacked) → SaysOneThat (promise.Unpacks bits) r → SaysOneThat (promise.Unpacks bits) q → r ≡ q
-salt-unpack-determined bits = one-unpacked (promise.Unpacks bits) (unpack-determined bits)
+pub salt-unpack-determined : (bits : List ℕ) (r q : SaltUnpacked) → SaysOneThat (packing.Unpacks bits) r → SaysOneThat (packing.Unpacks bits) q → r ≡ q
+salt-unpack-determined bits = one-unpacked (packing.Unpacks bits) (unpack-determined bits)
 
 pub salt-decoder-word-determined : (d : TpsDecoder) (r q : SaltUnpacked) → SaysOneThat (receive.Words d) r → SaysOneThat (receive.Words d) q → r ≡ q
 salt-decoder-word-determined d = one-unpacked (receive.Words d) (word-determined d)

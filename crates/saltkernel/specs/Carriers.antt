@@ -1,11 +1,12 @@
--- Document 01, 'Refusal numbers' and 'Pilot grid', over the C interface: the answers of the conversions and of the boosted value as numbers, 0 for accepted;
--- a refused call has the index 0, or the value +0.0, +0.0.
+-- Document 01, 'Refusal numbers' and 'Pilot grid', over the C interface: the answers of the conversions and of the
+-- boosted value as numbers, 0 for accepted; a refused call has the index 0, or the value +0.0, +0.0.
 use mathlib.Core.Path.{_≡_}
 use Rattle.carriers.specs.declared.AsActive.{AsActive}
 use Rattle.carriers.specs.declared.AsSigned.{AsSigned}
 use Rattle.carriers.specs.declared.AsBin.{AsBin}
 use Rattle.carriers.specs.declared.Boosted.{Boosted}
-use Rattle.carriers.specs.Answers.{activeNumberOf, activeIndexOf, signedNumberOf, signedIndexOf, binNumberOf, binIndexOf, boostedNumberOf, boostedCellOf}
+use Rattle.carriers.specs.Answers.{activeNumberOf, activeIndexOf, signedNumberOf, signedIndexOf, binNumberOf}
+use Rattle.carriers.specs.Answers.{binIndexOf, boostedNumberOf, boostedCellOf}
 use Rattle.saltkernel.specs.Numbers.{cellOf}
 use Rattle.saltkernel.specs.declared.SaltMapped.{SaltMapped}
 use Rattle.saltkernel.specs.declared.pilots.SaltCarrier.{SaltCarrier}

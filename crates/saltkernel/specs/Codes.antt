@@ -6,7 +6,8 @@ use Rattle.bch.specs.Promise.{Decodes}
 use Rattle.saltkernel.specs.declared.SaltCounted.{SaltCounted}
 use Rattle.saltkernel.specs.Numbers.{Says}
 
--- the numbers say an answer that meets the decoder's promise: of the bits w, what stood in the lent output, and what is left there
+-- the numbers say an answer that meets the decoder's promise: of the bits w, what stood in the lent output, and what
+-- is left there
 pub record DecodesAs (w before : List ℕ) (r : SaltCounted) (after : List ℕ) : Type 0 where
   pub answer : Counted
   pub says : Says r answer

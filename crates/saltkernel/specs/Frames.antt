@@ -1,9 +1,9 @@
--- Document 01, 'TPS' and 'Refusal numbers', over the C interface: the answers of the sender and of the receiver as numbers, 0 for accepted;
--- a refused call has the bit 0 and the state as it went in.
+-- Document 01, 'TPS' and 'Refusal numbers', over the C interface: the answers of the sender and of the receiver as
+-- numbers, 0 for accepted; a refused call has the bit 0 and the state as it went in.
 use mathlib.Core.Path.{_≡_}
-use Rattle.tps.specs.declared.Sent.{Sent}
-use Rattle.tps.specs.declared.TpsBit.{TpsBit}
-use Rattle.tps.specs.declared.Fed.{Fed}
+use Rattle.tps.specs.declared.sender.Sent.{Sent}
+use Rattle.tps.specs.declared.receiver.TpsBit.{TpsBit}
+use Rattle.tps.specs.declared.receiver.Fed.{Fed}
 use Rattle.tps.specs.Receive.{bitNumber, bitIn}
 use Rattle.saltkernel.specs.Numbers.{Says}
 use Rattle.saltkernel.specs.declared.frames.SaltSent.{SaltSent}

@@ -1,5 +1,5 @@
--- Document 01, 'Refusal numbers' and 'Pilot grid', over the C interface: the answers of the mapper and of the extractor as numbers, 0 for accepted;
--- a refused call has the state as it went in.
+-- Document 01, 'Refusal numbers' and 'Pilot grid', over the C interface: the answers of the mapper and of the
+-- extractor as numbers, 0 for accepted; a refused call has the state as it went in.
 use mathlib.Core.Path.{_≡_}
 use Rattle.grid.specs.declared.ScatteredPilotMapper.{ScatteredPilotMapper}
 use Rattle.grid.specs.declared.ScatteredPilotExtractor.{ScatteredPilotExtractor}

@@ -1,32 +1,32 @@
--- Document 01, 'Report program' and 'Refusal numbers', over the C interface: the answer to a line as numbers, and the answer of a feed, 0 for accepted;
--- a refused call has the reader as it went in.
+-- Document 01, 'Report program' and 'Refusal numbers', over the C interface: the answer to a line as numbers, and the
+-- answer of a feed, 0 for accepted; a refused call has the reader as it went in.
 use mathlib.Core.Path.{_≡_}
-use mathlib.Core.Bool.{Bool, false}
+use mathlib.Core.Bool.{Bool, _&&_, cond}
 use mathlib.Core.List.{List}
 use Prim.Native.Nat.{ℕ}
 use lib.Dec.{eqb}
 use lib.ListN.{length}
-use Rattle.ground.specs.Answer.{pick, counted, kept, written}
+use Rattle.ground.specs.Answer.{counted, kept, written}
 use Rattle.ground.specs.declared.Counted.{Counted}
-use Rattle.tps.specs.declared.Unpacked.{Unpacked}
-use Rattle.tps.specs.declared.Unpacked.the-variants.{Word, Refused}
+use Rattle.tps.specs.declared.word.Unpacked.{Unpacked}
+use Rattle.tps.specs.declared.word.Unpacked.the-variants.{Refused}
 use Rattle.report.specs.declared.Fed.{Fed}
 use Rattle.report.specs.Text.{lineText}
-use Rattle.report.specs.Stream.{lineRoom}
+use Rattle.report.specs.Calls.{lineRoom}
 use Rattle.saltkernel.specs.Numbers.{Says}
-use Rattle.saltkernel.specs.Words.{wordOf, reserved, codesNo}
+use Rattle.saltkernel.specs.Words.{wordIn, refused, codesNo}
 use Rattle.saltkernel.specs.declared.words.SaltUnpacked.{SaltUnpacked}
 use Rattle.saltkernel.specs.declared.reports.SaltReaderFed.{SaltReaderFed}
 
 -- ---- a line
 
--- an answer of C's: a word where the number is 0, else the refusal
+-- an answer of C's: the word of its codes where the number is 0, else the refusal
 abbrev pub answerIn : SaltUnpacked → Unpacked
-answerIn a = pick (eqb (a .number) 0) (Word (wordOf (a .word))) (Refused (a .number))
+answerIn a = cond (eqb (a .number) 0) (wordIn (a .word)) (Refused (a .number))
 
 -- its word has a code that stands for nothing
 abbrev pub reservedIn : SaltUnpacked → Bool
-reservedIn a = pick (eqb (a .number) 0) (reserved (a .word)) false
+reservedIn a = eqb (a .number) 0 && refused (wordIn (a .word))
 
 abbrev pub lineNo : SaltUnpacked → List ℕ → ℕ
 lineNo a out = codesNo lineRoom (reservedIn a) out

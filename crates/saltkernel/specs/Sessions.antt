@@ -1,5 +1,5 @@
--- Document 01, 'Receive session' and 'Refusal numbers', over the C interface: the answers of a feed and of a step back as numbers, 0 for accepted;
--- a refused call has the bit 0 and the session as it went in.
+-- Document 01, 'Receive session' and 'Refusal numbers', over the C interface: the answers of a feed and of a step back
+-- as numbers, 0 for accepted; a refused call has the bit 0 and the session as it went in.
 use mathlib.Core.Path.{_≡_}
 use Rattle.tps.specs.Receive.{bitNumber, bitIn}
 use Rattle.session.specs.declared.Fed.{Fed}

@@ -1,25 +1,23 @@
-// Gray mapping, hard and soft demapping, for C.
-ghost use mathlib.Core.Path.{_≡_};
-ghost use lib.ListN.{length};
-ghost use Rattle.ground.specs.Answer.{counted};
-ghost use Rattle.gray.specs.Mapping.{mappedOf};
-ghost use Rattle.gray.specs.Hard.{demapNo, Demapped};
-ghost use Rattle.gray.specs.Soft.{softOf};
+// Gray mapping, hard and soft demapping (4.3.5).
+ghost use Rattle.gray.specs.Mapping.{mapAnswer};
+ghost use Rattle.gray.specs.Hard.{demapAnswer, Demapped};
+ghost use Rattle.gray.specs.Soft.{softAnswer};
 ghost use Rattle.saltkernel.specs.Numbers.{Says, cellOf, SaysPoint, SaysSoft};
 use super::SaltCell;
 use super::SaltCounted;
 use super::SaltMapped;
 use super::numbers_of;
+use super::sizes;
 use gray::Mapped;
 use gray::Soft;
 use ground::Cell;
 
-// Soft values, or a refusal's number: the first count of them are values, the others +0.0.
+// The first `count` values, 2, 4 or 6, and +0.0 behind them; or a refusal's number, the count 0 and +0.0 throughout.
 #[repr(C)]
 pub struct SaltSoft {
     pub number: u8,
     pub count: usize,
-    pub values: [f32; 6],
+    pub values: [f32; sizes::SOFT_VALUES],
 }
 
 // A point as numbers.
@@ -38,18 +36,22 @@ fn point_numbers_of(answer: Mapped) -> SaltMapped
     }
 }
 
-// dvb_t_map_symbol.
+// The point of a group of 2, 4 or 6 bits (QPSK, 16-QAM, 64-QAM): even bits, high first, index the I axis, odd bits the
+// Q axis.
+// Refusals: 1 LENGTH (another group size), 2 NOT A BIT.
 #[no_mangle]
 pub extern "C" fn salt_dvb_t_map_symbol(bits: &[u8]) -> SaltMapped
-    ensures { λ r. ⌜ SaysPoint r (mappedOf (now (bits .entry))) ⌝ }
+    ensures { λ r. ⌜ SaysPoint r (mapAnswer (now (bits .entry))) ⌝ }
 {
     point_numbers_of(gray::dvb_t_map_symbol(bits))
 }
 
-// dvb_t_demap_symbol.
+// The v bits of the point nearest to a cell: on each axis the first index with the least distance. NaN or an infinity
+// gives index 0 on its axis. Answers v.
+// Refusals: 1 LENGTH (v isn't 2, 4 or 6), 3 OUTPUT SHORT.
 #[no_mangle]
 pub extern "C" fn salt_dvb_t_demap_symbol(sym: SaltCell, v: usize, out: &mut [u8]) -> SaltCounted
-    ensures answer { λ r. ⌜ Says r (counted (demapNo v (length (now (out .entry)))) v) ⌝ }
+    ensures answer { λ r. ⌜ Says r (demapAnswer v (now (out .entry))) ⌝ }
     ensures output { λ _. ⌜ Demapped (cellOf sym) v (now (out .entry)) (now (out .exit)) ⌝ }
 {
     numbers_of(gray::dvb_t_demap_symbol(
@@ -90,10 +92,12 @@ fn soft_numbers_of(answer: Soft) -> SaltSoft
     }
 }
 
-// dvb_t_soft_llr.
+// The soft values of a cell's v bits: the least squared distance to a level whose bit is 1 minus the same for 0, so
+// positive where 0 is likelier. A NaN or infinite coordinate gives NaN on its axis.
+// Refusals: 1 LENGTH (v isn't 2, 4 or 6).
 #[no_mangle]
 pub extern "C" fn salt_dvb_t_soft_llr(sym: SaltCell, v: usize) -> SaltSoft
-    ensures { λ r. ⌜ SaysSoft r (softOf (cellOf sym) v) ⌝ }
+    ensures { λ r. ⌜ SaysSoft r (softAnswer (cellOf sym) v) ⌝ }
 {
     soft_numbers_of(gray::dvb_t_soft_llr(
         Cell {

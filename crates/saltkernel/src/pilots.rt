@@ -1,20 +1,22 @@
-// The carriers of a symbol and their pilots, for C.
+// Carriers and pilots (4.5).
+// A carrier is counted in three ways, and each argument and answer says in which: an active index, 0 to 1704; a signed
+// index, active - 852; a bin, signed modulo 2,048. A phase of the scattered pilots is taken modulo 4.
 ghost use mathlib.Core.Path.{_≡_};
 ghost use Prim.Native.Nat.{_%_};
 ghost use lib.ListN.{length};
-ghost use Rattle.ground.specs.Answer.{counted};
+ghost use Rattle.ground.specs.Answer.{fillAnswer, fillLeaves};
 ghost use Rattle.carriers.specs.Mode.{mode2k};
-ghost use Rattle.carriers.specs.Count.{signedOf, modulo, activeOf, activeNo, signedNo, binNo};
 ghost use Rattle.carriers.specs.Sequence.{wkFrom};
 ghost use Rattle.carriers.specs.Carriers.{scattered, dataBins, staticBins, continualBins, tpsBins};
-ghost use Rattle.carriers.specs.Pilots.{bitNo};
-ghost use Rattle.carriers.specs.Answers.{asActive, asSigned, asBin, asBoosted, roomNo, filled, pilotsNo, pilotBinsLeft, pilotValuesLeft};
+ghost use Rattle.carriers.specs.Answers.{activeToSignedAnswer, signedToBinAnswer, binToActiveAnswer, boostedAnswer};
+ghost use Rattle.carriers.specs.Answers.{referenceAnswer, referenceBinsLeaves, referenceValuesLeaves};
 ghost use Rattle.saltkernel.specs.Numbers.{Says};
 ghost use Rattle.saltkernel.specs.Carriers.{SaysActive, SaysSigned, SaysBin, SaysBoosted};
 use super::SaltCell;
 use super::SaltCounted;
 use super::SaltMapped;
 use super::numbers_of;
+use super::sizes;
 use carriers::Active;
 use carriers::AsActive;
 use carriers::AsBin;
@@ -23,30 +25,30 @@ use carriers::Bin;
 use carriers::Boosted;
 use carriers::Signed;
 
-// An active index or a bin, or a refusal's number: the number is 0 where the call was accepted, and elsewhere the index is 0.
+// An active index or a bin, or a refusal's number and the index 0.
 #[repr(C)]
 pub struct SaltCarrier {
     pub number: u8,
     pub index: u16,
 }
 
-// A signed index, or a refusal's number: the number is 0 where the call was accepted, and elsewhere the index is 0.
+// A signed index, or a refusal's number and the index 0.
 #[repr(C)]
 pub struct SaltSigned {
     pub number: u8,
     pub index: i16,
 }
 
-// The continual pilots, by active index or by bin.
+// The continual carriers, in rising active order.
 #[repr(C)]
 pub struct SaltContinual {
-    pub carriers: [u16; 45],
+    pub carriers: [u16; sizes::CONTINUAL_CARRIERS],
 }
 
-// The TPS carriers, by active index or by bin.
+// The TPS carriers, in rising active order.
 #[repr(C)]
 pub struct SaltTps {
-    pub carriers: [u16; 17],
+    pub carriers: [u16; sizes::TPS_CARRIERS],
 }
 
 // A signed index as numbers.
@@ -107,31 +109,35 @@ fn boosted_numbers_of(answer: Boosted) -> SaltMapped
     }
 }
 
-// active_to_signed.
+// The signed index of an active one.
+// Refusals: 1 LENGTH (past 1704).
 #[no_mangle]
 pub extern "C" fn salt_active_to_signed(active: u16) -> SaltSigned
-    ensures { λ r. ⌜ SaysSigned r (asSigned (activeNo mode2k active) (signedOf mode2k active)) ⌝ }
+    ensures { λ r. ⌜ SaysSigned r (activeToSignedAnswer mode2k active) ⌝ }
 {
     signed_numbers_of(carriers::active_to_signed(Active(active)))
 }
 
-// signed_to_bin.
+// The bin of a signed index.
+// Refusals: 1 LENGTH (outside -852 to 852).
 #[no_mangle]
 pub extern "C" fn salt_signed_to_bin(signed: i16) -> SaltCarrier
-    ensures { λ r. ⌜ SaysBin r (asBin (signedNo mode2k signed) (modulo mode2k signed)) ⌝ }
+    ensures { λ r. ⌜ SaysBin r (signedToBinAnswer mode2k signed) ⌝ }
 {
     bin_numbers_of(carriers::signed_to_bin(Signed(signed)))
 }
 
-// bin_to_active.
+// The active index of a bin.
+// Refusals: 1 LENGTH (no active carrier has this bin).
 #[no_mangle]
 pub extern "C" fn salt_bin_to_active(bin: u16) -> SaltCarrier
-    ensures { λ r. ⌜ SaysActive r (asActive (binNo mode2k bin) (activeOf mode2k bin)) ⌝ }
+    ensures { λ r. ⌜ SaysActive r (binToActiveAnswer mode2k bin) ⌝ }
 {
     active_numbers_of(carriers::bin_to_active(Bin(bin)))
 }
 
-// wk_prbs.
+// Fills the output with the pilot sequence w from its start, a bit a byte; the bit of an active carrier stands at its
+// index.
 #[no_mangle]
 pub extern "C" fn salt_wk_prbs(out: &mut [u8])
     ensures { λ _. ⌜ now (out .exit) ≡ wkFrom 0 (length (now (out .entry))) ⌝ }
@@ -139,15 +145,16 @@ pub extern "C" fn salt_wk_prbs(out: &mut [u8])
     carriers::wk_prbs(out);
 }
 
-// boosted_pilot_value.
+// The boosted pilot of a bit of the pilot sequence: +4/3 for 0 and -4/3 for 1, imaginary part +0.0.
+// Refusals: 2 NOT A BIT.
 #[no_mangle]
 pub extern "C" fn salt_boosted_pilot_value(wk: u8) -> SaltMapped
-    ensures { λ r. ⌜ SaysBoosted r (asBoosted (bitNo wk) wk) ⌝ }
+    ensures { λ r. ⌜ SaysBoosted r (boostedAnswer wk) ⌝ }
 {
     boosted_numbers_of(carriers::boosted_pilot_value(wk))
 }
 
-// continual_pilot_indices.
+// The active indices of the 45 continual carriers.
 #[no_mangle]
 pub extern "C" fn salt_continual_pilot_indices() -> SaltContinual
     ensures { λ r. ⌜ r .carriers ≡ mode2k .continual ⌝ }
@@ -156,7 +163,7 @@ pub extern "C" fn salt_continual_pilot_indices() -> SaltContinual
     SaltContinual { carriers: table }
 }
 
-// continual_pilot_bins.
+// The bins of the 45 continual carriers.
 #[no_mangle]
 pub extern "C" fn salt_continual_pilot_bins() -> SaltContinual
     ensures { λ r. ⌜ r .carriers ≡ continualBins mode2k ⌝ }
@@ -165,7 +172,7 @@ pub extern "C" fn salt_continual_pilot_bins() -> SaltContinual
     SaltContinual { carriers: table }
 }
 
-// tps_carrier_indices.
+// The active indices of the 17 TPS carriers.
 #[no_mangle]
 pub extern "C" fn salt_tps_carrier_indices() -> SaltTps
     ensures { λ r. ⌜ r .carriers ≡ mode2k .tps ⌝ }
@@ -174,7 +181,7 @@ pub extern "C" fn salt_tps_carrier_indices() -> SaltTps
     SaltTps { carriers: table }
 }
 
-// tps_carrier_bins.
+// The bins of the 17 TPS carriers.
 #[no_mangle]
 pub extern "C" fn salt_tps_carrier_bins() -> SaltTps
     ensures { λ r. ⌜ r .carriers ≡ tpsBins mode2k ⌝ }
@@ -183,43 +190,54 @@ pub extern "C" fn salt_tps_carrier_bins() -> SaltTps
     SaltTps { carriers: table }
 }
 
-// scattered_pilot_indices.
+// The active indices of a phase's scattered carriers: 3p, 3p + 12, .. up to 1704. Answers how many: 143 in phase 0,
+// else 142.
+// Refusals: 3 OUTPUT SHORT.
 #[no_mangle]
 pub extern "C" fn salt_scattered_pilot_indices(phase: usize, out: &mut [u16]) -> SaltCounted
-    ensures answer { λ r. ⌜ Says r (counted (roomNo (length (scattered mode2k (phase % 4))) (now (out .entry))) (length (scattered mode2k (phase % 4)))) ⌝ }
-    ensures output { λ _. ⌜ now (out .exit) ≡ filled (length (scattered mode2k (phase % 4))) (scattered mode2k (phase % 4)) (now (out .entry)) ⌝ }
+    ensures answer { λ r. ⌜ Says r (fillAnswer (length (scattered mode2k (phase % 4))) (now (out .entry))) ⌝ }
+    ensures output { λ _. ⌜ now (out .exit)
+        ≡ fillLeaves (length (scattered mode2k (phase % 4))) (scattered mode2k (phase % 4)) (now (out .entry)) ⌝ }
 {
     numbers_of(carriers::scattered_pilot_indices(phase, out))
 }
 
-// data_bins.
+// The bins of a phase's 1,512 data carriers, in rising active order. Answers 1,512.
+// Refusals: 3 OUTPUT SHORT.
 #[no_mangle]
 pub extern "C" fn salt_data_bins(phase: usize, out: &mut [u16]) -> SaltCounted
-    ensures answer { λ r. ⌜ Says r (counted (roomNo (mode2k .dataCount) (now (out .entry))) (mode2k .dataCount)) ⌝ }
-    ensures output { λ _. ⌜ now (out .exit) ≡ filled (mode2k .dataCount) (dataBins mode2k (phase % 4)) (now (out .entry)) ⌝ }
+    ensures answer { λ r. ⌜ Says r (fillAnswer (mode2k .dataCount) (now (out .entry))) ⌝ }
+    ensures output { λ _. ⌜ now (out .exit)
+        ≡ fillLeaves (mode2k .dataCount) (dataBins mode2k (phase % 4)) (now (out .entry)) ⌝ }
 {
     numbers_of(carriers::data_bins(phase, out))
 }
 
-// static_data_bins.
+// The bins of the static grid's 1,660 data carriers, in rising active order. Answers 1,660.
+// Refusals: 3 OUTPUT SHORT.
 #[no_mangle]
 pub extern "C" fn salt_static_data_bins(out: &mut [u16]) -> SaltCounted
-    ensures answer { λ r. ⌜ Says r (counted (roomNo (mode2k .staticCount) (now (out .entry))) (mode2k .staticCount)) ⌝ }
-    ensures output { λ _. ⌜ now (out .exit) ≡ filled (mode2k .staticCount) (staticBins mode2k) (now (out .entry)) ⌝ }
+    ensures answer { λ r. ⌜ Says r (fillAnswer (mode2k .staticCount) (now (out .entry))) ⌝ }
+    ensures output { λ _. ⌜ now (out .exit)
+        ≡ fillLeaves (mode2k .staticCount) (staticBins mode2k) (now (out .entry)) ⌝ }
 {
     numbers_of(carriers::static_data_bins(out))
 }
 
-// reference_pilot_bins.
+// The bins and the boosted values (176 cells) of a phase's reference pilots, in rising active order; TPS carriers
+// aren't among them. Answers 176.
+// Refusals: 3 OUTPUT SHORT (either).
 #[no_mangle]
 pub extern "C" fn salt_reference_pilot_bins(
     phase: usize,
     bins: &mut [u16],
     values: &mut [f32],
 ) -> SaltCounted
-    ensures answer { λ r. ⌜ Says r (counted (pilotsNo mode2k (now (bins .entry)) (now (values .entry))) (mode2k .referenceCount)) ⌝ }
-    ensures bins { λ _. ⌜ now (bins .exit) ≡ pilotBinsLeft mode2k (phase % 4) (now (bins .entry)) (now (values .entry)) ⌝ }
-    ensures values { λ _. ⌜ now (values .exit) ≡ pilotValuesLeft mode2k (phase % 4) (now (bins .entry)) (now (values .entry)) ⌝ }
+    ensures answer { λ r. ⌜ Says r (referenceAnswer mode2k (now (bins .entry)) (now (values .entry))) ⌝ }
+    ensures bins { λ _. ⌜ now (bins .exit)
+        ≡ referenceBinsLeaves mode2k (phase % 4) (now (bins .entry)) (now (values .entry)) ⌝ }
+    ensures values { λ _. ⌜ now (values .exit)
+        ≡ referenceValuesLeaves mode2k (phase % 4) (now (bins .entry)) (now (values .entry)) ⌝ }
 {
     numbers_of(carriers::reference_pilot_bins(phase, bins, values))
 }

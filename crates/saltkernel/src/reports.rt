@@ -1,22 +1,24 @@
-// The report on received words, for C.
+// The report on received words.
+// Its input is lines, each a word in 17 hexadecimal digits of lower case, the first digit's high bit s0; its output is
+// text: a heading, a line for each line of the input, numbered from 1 on, and a closing line with the counts of lines
+// and of refused lines. A line ends at a newline or the end of the input; an empty line counts, and no line follows a
+// final newline. In whatever parts the input is fed, the report is the same.
 ghost use mathlib.Core.Path.{_≡_};
-ghost use lib.ListN.{length};
-ghost use Rattle.report.specs.Reading.{readLine};
-ghost use Rattle.report.specs.Text.{heading};
-ghost use Rattle.report.specs.Stream.{fresh, textOf, closeText, textAnswer, textLeaves, partRoom, closeRoom, fedOf};
+ghost use Rattle.report.specs.Reading.{readAnswer};
+ghost use Rattle.report.specs.Stream.{fresh};
+ghost use Rattle.report.specs.Calls.{headingAnswer, headingLeaves, feedAnswer, feedLeaves, closeAnswer, closeLeaves};
 ghost use Rattle.saltkernel.specs.Numbers.{Says};
 ghost use Rattle.saltkernel.specs.Words.{SaysUnpacked};
 ghost use Rattle.saltkernel.specs.Reports.{answerIn, reservedIn, lineAnswer, lineLeaves, SaysReaderFed};
 use super::SaltCounted;
 use super::numbers_of;
 use super::words::SaltUnpacked;
-use super::words::reserved_code;
 use super::words::unpacked_numbers_of;
 use super::words::word_of;
 use report::Reader;
 use tps::Unpacked;
 
-// What feeding a part of the input gives: where the call was refused the reader is as it went in.
+// The bytes written or the refusal, and the reader behind the part or, refused, as it went in.
 #[repr(C)]
 pub struct SaltReaderFed {
     pub answer: SaltCounted,
@@ -27,10 +29,13 @@ pub struct SaltReaderFed {
 fn reserved_answer(answer: SaltUnpacked) -> bool
     ensures { λ r. ⌜ r ≡ reservedIn answer ⌝ }
 {
-    if answer.number == 0 {
-        let word = answer.word;
-        return reserved_code(word);
+    if answer.number != 0 {
+        return false;
     }
+    let word = answer.word;
+    let Unpacked::Word(_) = word_of(word) else {
+        return true;
+    };
     false
 }
 
@@ -40,29 +45,34 @@ fn answer_of(answer: SaltUnpacked) -> Unpacked
 {
     if answer.number == 0 {
         let word = answer.word;
-        return Unpacked::Word(word_of(word));
+        return word_of(word);
     }
     Unpacked::Refused(answer.number)
 }
 
-// read_line.
+// The word that a line says, given without its newline, with up to two wrong bits mended; s0 is ignored.
+// Refusals: 9 BAD LINE, 4 NO WORD, 5 RESERVED.
 #[no_mangle]
 pub extern "C" fn salt_read_line(line: &[u8]) -> SaltUnpacked
-    ensures { λ r. ⌜ SaysUnpacked r (readLine (now (line .entry))) ⌝ }
+    ensures { λ r. ⌜ SaysUnpacked r (readAnswer (now (line .entry))) ⌝ }
 {
     unpacked_numbers_of(report::read_line(line))
 }
 
-// put_heading.
+// Writes the heading, `line frame points rate guard cell` and a newline. Answers 34.
+// Refusals: 3 OUTPUT SHORT.
 #[no_mangle]
 pub extern "C" fn salt_put_heading(out: &mut [u8]) -> SaltCounted
-    ensures answer { λ r. ⌜ Says r (textAnswer (length heading) heading (now (out .entry))) ⌝ }
-    ensures output { λ _. ⌜ now (out .exit) ≡ textLeaves (length heading) heading (now (out .entry)) ⌝ }
+    ensures answer { λ r. ⌜ Says r (headingAnswer (now (out .entry))) ⌝ }
+    ensures output { λ _. ⌜ now (out .exit) ≡ headingLeaves (now (out .entry)) ⌝ }
 {
     numbers_of(report::put_heading(out))
 }
 
-// put_line.
+// Writes the report's line for a line's number and its answer: a word where the answer's number is 0, else that
+// refusal. Answers the bytes written.
+// Refusals: 3 OUTPUT SHORT (room for fewer than 60), 5 RESERVED (a word whose constellation is above 2, rate above 4
+// or guard above 3).
 #[no_mangle]
 pub extern "C" fn salt_put_line(number: u64, answer: SaltUnpacked, out: &mut [u8]) -> SaltCounted
     ensures answer { λ r. ⌜ Says r (lineAnswer number answer (now (out .entry))) ⌝ }
@@ -83,7 +93,7 @@ pub extern "C" fn salt_put_line(number: u64, answer: SaltUnpacked, out: &mut [u8
     numbers_of(report::put_line(number, answer_of(answer), out))
 }
 
-// Reader::new.
+// A reader at the start of the input.
 #[no_mangle]
 pub extern "C" fn salt_reader_new() -> Reader
     ensures { λ r. ⌜ r ≡ fresh ⌝ }
@@ -91,11 +101,13 @@ pub extern "C" fn salt_reader_new() -> Reader
     Reader::new()
 }
 
-// Reader::feed.
+// Takes a part of the input, of any size, and writes the report's lines for the lines that end in it. Answers the
+// bytes written.
+// Refusals: 3 OUTPUT SHORT (room for fewer than 60 a byte of the part).
 #[no_mangle]
 pub extern "C" fn salt_reader_feed(reader: Reader, part: &[u8], out: &mut [u8]) -> SaltReaderFed
-    ensures answer { λ r. ⌜ SaysReaderFed r (fedOf reader (now (part .entry)) (now (out .entry))) ⌝ }
-    ensures output { λ _. ⌜ now (out .exit) ≡ textLeaves (partRoom (now (part .entry))) (textOf reader (now (part .entry))) (now (out .entry)) ⌝ }
+    ensures answer { λ r. ⌜ SaysReaderFed r (feedAnswer reader (now (part .entry)) (now (out .entry))) ⌝ }
+    ensures output { λ _. ⌜ now (out .exit) ≡ feedLeaves reader (now (part .entry)) (now (out .entry)) ⌝ }
 {
     let fed = reader.feed(part, out);
     let answer = fed.answer;
@@ -106,11 +118,13 @@ pub extern "C" fn salt_reader_feed(reader: Reader, part: &[u8], out: &mut [u8]) 
     }
 }
 
-// Reader::close.
+// Ends the input: writes the report's line for a line that is open there, and the closing line. Answers the bytes
+// written.
+// Refusals: 3 OUTPUT SHORT (room for fewer than 120).
 #[no_mangle]
 pub extern "C" fn salt_reader_close(reader: Reader, out: &mut [u8]) -> SaltCounted
-    ensures answer { λ r. ⌜ Says r (textAnswer closeRoom (closeText reader) (now (out .entry))) ⌝ }
-    ensures output { λ _. ⌜ now (out .exit) ≡ textLeaves closeRoom (closeText reader) (now (out .entry)) ⌝ }
+    ensures answer { λ r. ⌜ Says r (closeAnswer reader (now (out .entry))) ⌝ }
+    ensures output { λ _. ⌜ now (out .exit) ≡ closeLeaves reader (now (out .entry)) ⌝ }
 {
     numbers_of(reader.close(out))
 }

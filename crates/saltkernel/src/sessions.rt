@@ -1,8 +1,10 @@
-// The receive session, for C.
+// The receive session.
+// The extractor and the TPS decoder joined, with a journal that steps back. With n symbols standing the phase is n mod
+// 4, and place n of the journal, 34 floats from 34 n on, is the next symbol's. The caller lends one journal for each
+// session, always the same, and writes nothing to it in between.
 ghost use mathlib.Core.Path.{_≡_};
-ghost use lib.ListN.{length};
-ghost use Rattle.session.specs.History.{Run, opsOf};
-ghost use Rattle.session.specs.Session.{fresh, nextPhase, fedOf, fedData, fedJournal, steppedOf, Words};
+ghost use Rattle.session.specs.Session.{fresh, nextPhase, feedAnswer, feedDataLeaves, feedJournalLeaves};
+ghost use Rattle.session.specs.Session.{stepBackAnswer, Words};
 ghost use Rattle.saltkernel.specs.Words.{SaysOneThat};
 ghost use Rattle.saltkernel.specs.Sessions.{SaysSessionFed, SaysStepped};
 use super::words::SaltUnpacked;
@@ -11,7 +13,7 @@ use session::Session;
 use session::StepBack;
 use tps::TpsBit;
 
-// What feeding a symbol gives: the number is 0 where the call was accepted, and elsewhere the bit is 0 and the session as it went in.
+// The symbol's TPS bit and the session behind it; or a refusal's number, the bit 0 and the session as it went in.
 #[repr(C)]
 pub struct SaltSessionFed {
     pub number: u8,
@@ -19,14 +21,14 @@ pub struct SaltSessionFed {
     pub session: Session,
 }
 
-// What a step back gives: the number is 0 where the call was accepted, and elsewhere the session is as it went in.
+// The session before its latest symbol; or a refusal's number and the session as it went in.
 #[repr(C)]
 pub struct SaltSessionStepped {
     pub number: u8,
     pub session: Session,
 }
 
-// Session::new.
+// A session with no symbol standing; its journal may hold anything.
 #[no_mangle]
 pub extern "C" fn salt_session_new() -> Session
     ensures { λ r. ⌜ r ≡ fresh ⌝ }
@@ -34,7 +36,7 @@ pub extern "C" fn salt_session_new() -> Session
     Session::new()
 }
 
-// Session::reset.
+// The session with no symbol standing again.
 #[no_mangle]
 pub extern "C" fn salt_session_reset(session: Session) -> Session
     ensures { λ r. ⌜ r ≡ fresh ⌝ }
@@ -42,7 +44,10 @@ pub extern "C" fn salt_session_reset(session: Session) -> Session
     session.reset()
 }
 
-// Session::feed.
+// Takes one symbol: its 1,512 data cells to the output, its 17 TPS cells to their place of the journal, both in rising
+// active order, and its TPS bit.
+// Refusals: 1 LENGTH (fewer than 4,096 floats of symbol), 3 OUTPUT SHORT (room for fewer than 3,024 floats, or a
+// journal under 2,312), 6 FULL.
 #[no_mangle]
 pub extern "C" fn salt_session_feed(
     session: Session,
@@ -50,9 +55,12 @@ pub extern "C" fn salt_session_feed(
     out: &mut [f32],
     journal: &mut [f32],
 ) -> SaltSessionFed
-    ensures answer { λ r. ⌜ SaysSessionFed r (fedOf session (now (symbol .entry)) (now (out .entry)) (now (journal .entry))) ⌝ }
-    ensures output { λ _. ⌜ now (out .exit) ≡ fedData session (now (symbol .entry)) (now (out .entry)) (now (journal .entry)) ⌝ }
-    ensures journal { λ _. ⌜ now (journal .exit) ≡ fedJournal session (now (symbol .entry)) (now (out .entry)) (now (journal .entry)) ⌝ }
+    ensures answer { λ r. ⌜ SaysSessionFed r (feedAnswer session (now (symbol .entry)) (now (out .entry))
+        (now (journal .entry))) ⌝ }
+    ensures output { λ _. ⌜ now (out .exit)
+        ≡ feedDataLeaves session (now (symbol .entry)) (now (out .entry)) (now (journal .entry)) ⌝ }
+    ensures journal { λ _. ⌜ now (journal .exit)
+        ≡ feedJournalLeaves session (now (symbol .entry)) (now (out .entry)) (now (journal .entry)) ⌝ }
 {
     let fed = session.feed(symbol, out, journal);
     let answer = fed.answer;
@@ -71,10 +79,11 @@ pub extern "C" fn salt_session_feed(
     }
 }
 
-// Session::step_back.
+// Takes the latest standing symbol back; the journal is only read.
+// Refusals: 3 OUTPUT SHORT (a journal under 2,312), 7 EMPTY.
 #[no_mangle]
 pub extern "C" fn salt_session_step_back(session: Session, journal: &[f32]) -> SaltSessionStepped
-    ensures { λ r. ⌜ SaysStepped r (steppedOf session (now (journal .entry))) ⌝ }
+    ensures { λ r. ⌜ SaysStepped r (stepBackAnswer session (now (journal .entry))) ⌝ }
 {
     let stepped = session.step_back(journal);
     let answer = stepped.answer;
@@ -91,7 +100,7 @@ pub extern "C" fn salt_session_step_back(session: Session, journal: &[f32]) -> S
     }
 }
 
-// Session::phase.
+// The phase of the session's next symbol, 0 to 3.
 #[no_mangle]
 pub extern "C" fn salt_session_phase(session: Session) -> usize
     ensures { λ r. ⌜ r ≡ nextPhase session ⌝ }
@@ -99,18 +108,11 @@ pub extern "C" fn salt_session_phase(session: Session) -> usize
     session.phase()
 }
 
-// Session::word.
+// The word of 68 standing symbols.
+// Refusals: 8 INCOMPLETE, 4 NO WORD, 5 RESERVED.
 #[no_mangle]
 pub extern "C" fn salt_session_word(session: Session) -> SaltUnpacked
     ensures { λ r. ⌜ SaysOneThat (Words session) r ⌝ }
 {
     unpacked_numbers_of(session.word())
-}
-
-// script::run.
-#[no_mangle]
-pub extern "C" fn salt_session_run(script: &[u8], symbols: &[f32], journal: &mut [f32]) -> Session
-    ensures { λ r. ⌜ Run (now (journal .entry)) (opsOf (now (symbols .entry)) 3024 (length (now (journal .entry))) (now (script .entry)) (length (now (script .entry)))) r (now (journal .exit)) ⌝ }
-{
-    session::script::run(script, symbols, journal)
 }

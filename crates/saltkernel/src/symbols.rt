@@ -1,10 +1,11 @@
-// Symbols from data cells and data cells from symbols, for C.
+// Symbols from data cells, and data cells from symbols (4.5).
 ghost use mathlib.Core.Path.{_≡_};
-ghost use Rattle.ground.specs.Answer.{counted};
+ghost use Rattle.ground.specs.Answer.{fillAnswer, fillLeaves};
 ghost use Rattle.carriers.specs.Mode.{mode2k};
 ghost use Rattle.carriers.specs.Carriers.{dataBins};
-ghost use Rattle.carriers.specs.Answers.{roomNo, filled, pilotsNo, pilotBinsLeft, pilotValuesLeft};
-ghost use Rattle.grid.specs.Calls.{mapNo, extractNo, mapLeft, extractLeft, staticMapLeft, staticExtractLeft, phaseOf, mapAnswer, extractAnswer};
+ghost use Rattle.carriers.specs.Answers.{referenceAnswer, referenceBinsLeaves, referenceValuesLeaves};
+ghost use Rattle.grid.specs.Calls.{phaseOf, mapAnswer, mapLeaves, extractAnswer, extractLeaves, gridMapAnswer};
+ghost use Rattle.grid.specs.Calls.{gridMapLeaves, gridExtractAnswer, gridExtractLeaves};
 ghost use Rattle.saltkernel.specs.Numbers.{Says};
 ghost use Rattle.saltkernel.specs.Grid.{mapperOf, extractorOf, SaysMapped, SaysExtracted};
 use super::SaltCounted;
@@ -14,26 +15,26 @@ use grid::MapAnswer;
 use grid::ScatteredPilotExtractor;
 use grid::ScatteredPilotMapper;
 
-// The mapper: the phase of its next symbol.
+// The mapper: the phase of its next symbol, taken modulo 4.
 #[repr(C)]
 pub struct SaltScatteredPilotMapper {
     pub phase: usize,
 }
 
-// The extractor: the phase of its next symbol.
+// The extractor: the phase of its next symbol, taken modulo 4.
 #[repr(C)]
 pub struct SaltScatteredPilotExtractor {
     pub phase: usize,
 }
 
-// What mapping a symbol gives: the number is 0 where the call was accepted, and elsewhere the mapper is as it went in.
+// The mapper in the next phase; or a refusal's number and the mapper as it went in.
 #[repr(C)]
 pub struct SaltMapAnswer {
     pub number: u8,
     pub mapper: SaltScatteredPilotMapper,
 }
 
-// What extracting a symbol gives: the number is 0 where the call was accepted, and elsewhere the extractor is as it went in.
+// The extractor in the next phase; or a refusal's number and the extractor as it went in.
 #[repr(C)]
 pub struct SaltExtractAnswer {
     pub number: u8,
@@ -72,7 +73,7 @@ fn extract_numbers_of(answer: ExtractAnswer) -> SaltExtractAnswer
     }
 }
 
-// ScatteredPilotMapper::new.
+// A mapper in phase 0.
 #[no_mangle]
 pub extern "C" fn salt_scattered_pilot_mapper_new() -> SaltScatteredPilotMapper
     ensures { λ r. ⌜ mapperOf r ≡ record { phase = 0 } ⌝ }
@@ -83,7 +84,7 @@ pub extern "C" fn salt_scattered_pilot_mapper_new() -> SaltScatteredPilotMapper
     }
 }
 
-// ScatteredPilotMapper::reset.
+// The mapper in phase 0 again.
 #[no_mangle]
 pub extern "C" fn salt_scattered_pilot_mapper_reset(
     mapper: SaltScatteredPilotMapper,
@@ -96,22 +97,26 @@ pub extern "C" fn salt_scattered_pilot_mapper_reset(
     SaltScatteredPilotMapper { phase: reset.phase }
 }
 
-// ScatteredPilotMapper::map_symbol.
+// Makes a symbol: 2,048 cells +0.0, then the 1,512 data cells in their bins, then the boosted value on every reserved
+// carrier, TPS carriers among them.
+// Refusals: 1 LENGTH (fewer than 3,024 floats of cells), 3 OUTPUT SHORT (room for fewer than 4,096 floats).
 #[no_mangle]
 pub extern "C" fn salt_scattered_pilot_mapper_map_symbol(
     mapper: SaltScatteredPilotMapper,
     cells: &[f32],
     symbol: &mut [f32],
 ) -> SaltMapAnswer
-    ensures answer { λ r. ⌜ SaysMapped r (mapAnswer (mapNo mode2k (mode2k .dataCount) (now (cells .entry)) (now (symbol .entry))) (mapperOf mapper)) ⌝ }
-    ensures symbol { λ _. ⌜ now (symbol .exit) ≡ mapLeft mode2k (phaseOf (mapper .phase)) (now (cells .entry)) (now (symbol .entry)) ⌝ }
+    ensures answer { λ r. ⌜ SaysMapped r (mapAnswer mode2k (mapperOf mapper) (now (cells .entry))
+        (now (symbol .entry))) ⌝ }
+    ensures symbol { λ _. ⌜ now (symbol .exit)
+        ≡ mapLeaves mode2k (phaseOf (mapper .phase)) (now (cells .entry)) (now (symbol .entry)) ⌝ }
 {
     map_numbers_of(ScatteredPilotMapper {
         phase: mapper.phase,
     }.map_symbol(cells, symbol))
 }
 
-// ScatteredPilotExtractor::new.
+// An extractor in phase 0.
 #[no_mangle]
 pub extern "C" fn salt_scattered_pilot_extractor_new() -> SaltScatteredPilotExtractor
     ensures { λ r. ⌜ extractorOf r ≡ record { phase = 0 } ⌝ }
@@ -122,7 +127,7 @@ pub extern "C" fn salt_scattered_pilot_extractor_new() -> SaltScatteredPilotExtr
     }
 }
 
-// ScatteredPilotExtractor::reset.
+// The extractor in phase 0 again.
 #[no_mangle]
 pub extern "C" fn salt_scattered_pilot_extractor_reset(
     extractor: SaltScatteredPilotExtractor,
@@ -135,7 +140,7 @@ pub extern "C" fn salt_scattered_pilot_extractor_reset(
     SaltScatteredPilotExtractor { phase: reset.phase }
 }
 
-// ScatteredPilotExtractor::phase.
+// The phase of the extractor's next symbol, 0 to 3.
 #[no_mangle]
 pub extern "C" fn salt_scattered_pilot_extractor_phase(
     extractor: SaltScatteredPilotExtractor,
@@ -147,65 +152,77 @@ pub extern "C" fn salt_scattered_pilot_extractor_phase(
     }.phase()
 }
 
-// ScatteredPilotExtractor::data_bins.
+// The bins of the 1,512 data carriers of the extractor's next symbol, as salt_data_bins gives them. Answers 1,512.
+// Refusals: 3 OUTPUT SHORT.
 #[no_mangle]
 pub extern "C" fn salt_scattered_pilot_extractor_data_bins(
     extractor: SaltScatteredPilotExtractor,
     out: &mut [u16],
 ) -> SaltCounted
-    ensures answer { λ r. ⌜ Says r (counted (roomNo (mode2k .dataCount) (now (out .entry))) (mode2k .dataCount)) ⌝ }
-    ensures output { λ _. ⌜ now (out .exit) ≡ filled (mode2k .dataCount) (dataBins mode2k (phaseOf (extractor .phase))) (now (out .entry)) ⌝ }
+    ensures answer { λ r. ⌜ Says r (fillAnswer (mode2k .dataCount) (now (out .entry))) ⌝ }
+    ensures output { λ _. ⌜ now (out .exit)
+        ≡ fillLeaves (mode2k .dataCount) (dataBins mode2k (phaseOf (extractor .phase))) (now (out .entry)) ⌝ }
 {
     numbers_of(ScatteredPilotExtractor {
         phase: extractor.phase,
     }.data_bins(out))
 }
 
-// ScatteredPilotExtractor::current_pilot_bins.
+// The bins and values of the 176 reference pilots of the extractor's next symbol, as salt_reference_pilot_bins gives
+// them. Answers 176.
+// Refusals: 3 OUTPUT SHORT (either).
 #[no_mangle]
 pub extern "C" fn salt_scattered_pilot_extractor_current_pilot_bins(
     extractor: SaltScatteredPilotExtractor,
     bins: &mut [u16],
     values: &mut [f32],
 ) -> SaltCounted
-    ensures answer { λ r. ⌜ Says r (counted (pilotsNo mode2k (now (bins .entry)) (now (values .entry))) (mode2k .referenceCount)) ⌝ }
-    ensures bins { λ _. ⌜ now (bins .exit) ≡ pilotBinsLeft mode2k (phaseOf (extractor .phase)) (now (bins .entry)) (now (values .entry)) ⌝ }
-    ensures values { λ _. ⌜ now (values .exit) ≡ pilotValuesLeft mode2k (phaseOf (extractor .phase)) (now (bins .entry)) (now (values .entry)) ⌝ }
+    ensures answer { λ r. ⌜ Says r (referenceAnswer mode2k (now (bins .entry)) (now (values .entry))) ⌝ }
+    ensures bins { λ _. ⌜ now (bins .exit)
+        ≡ referenceBinsLeaves mode2k (phaseOf (extractor .phase)) (now (bins .entry)) (now (values .entry)) ⌝ }
+    ensures values { λ _. ⌜ now (values .exit)
+        ≡ referenceValuesLeaves mode2k (phaseOf (extractor .phase)) (now (bins .entry)) (now (values .entry)) ⌝ }
 {
     numbers_of(ScatteredPilotExtractor {
         phase: extractor.phase,
     }.current_pilot_bins(bins, values))
 }
 
-// ScatteredPilotExtractor::extract_symbol.
+// Reads the 1,512 data cells of a symbol, in rising active order.
+// Refusals: 1 LENGTH (fewer than 4,096 floats of symbol), 3 OUTPUT SHORT (room for fewer than 3,024 floats).
 #[no_mangle]
 pub extern "C" fn salt_scattered_pilot_extractor_extract_symbol(
     extractor: SaltScatteredPilotExtractor,
     symbol: &[f32],
     out: &mut [f32],
 ) -> SaltExtractAnswer
-    ensures answer { λ r. ⌜ SaysExtracted r (extractAnswer (extractNo mode2k (mode2k .dataCount) (now (symbol .entry)) (now (out .entry))) (extractorOf extractor)) ⌝ }
-    ensures output { λ _. ⌜ now (out .exit) ≡ extractLeft mode2k (phaseOf (extractor .phase)) (now (symbol .entry)) (now (out .entry)) ⌝ }
+    ensures answer { λ r. ⌜ SaysExtracted r (extractAnswer mode2k (extractorOf extractor) (now (symbol .entry))
+        (now (out .entry))) ⌝ }
+    ensures output { λ _. ⌜ now (out .exit)
+        ≡ extractLeaves mode2k (phaseOf (extractor .phase)) (now (symbol .entry)) (now (out .entry)) ⌝ }
 {
     extract_numbers_of(ScatteredPilotExtractor {
         phase: extractor.phase,
     }.extract_symbol(symbol, out))
 }
 
-// grid_map.
+// Makes a symbol of the static grid: 1,660 data cells, and boosted pilots on the 45 continual carriers. Answers 2,048,
+// the cells written.
+// Refusals: 1 LENGTH (fewer than 3,320 floats of cells), 3 OUTPUT SHORT (room for fewer than 4,096 floats).
 #[no_mangle]
 pub extern "C" fn salt_grid_map(cells: &[f32], symbol: &mut [f32]) -> SaltCounted
-    ensures answer { λ r. ⌜ Says r (counted (mapNo mode2k (mode2k .staticCount) (now (cells .entry)) (now (symbol .entry))) (mode2k .bins)) ⌝ }
-    ensures symbol { λ _. ⌜ now (symbol .exit) ≡ staticMapLeft mode2k (now (cells .entry)) (now (symbol .entry)) ⌝ }
+    ensures answer { λ r. ⌜ Says r (gridMapAnswer mode2k (now (cells .entry)) (now (symbol .entry))) ⌝ }
+    ensures symbol { λ _. ⌜ now (symbol .exit) ≡ gridMapLeaves mode2k (now (cells .entry)) (now (symbol .entry)) ⌝ }
 {
     numbers_of(grid::grid_map(cells, symbol))
 }
 
-// grid_extract.
+// Reads the 1,660 data cells of a symbol of the static grid, in rising active order. Answers 1,660, the cells written.
+// Refusals: 1 LENGTH (fewer than 4,096 floats of symbol), 3 OUTPUT SHORT (room for fewer than 3,320 floats).
 #[no_mangle]
 pub extern "C" fn salt_grid_extract(symbol: &[f32], out: &mut [f32]) -> SaltCounted
-    ensures answer { λ r. ⌜ Says r (counted (extractNo mode2k (mode2k .staticCount) (now (symbol .entry)) (now (out .entry))) (mode2k .staticCount)) ⌝ }
-    ensures output { λ _. ⌜ now (out .exit) ≡ staticExtractLeft mode2k (now (symbol .entry)) (now (out .entry)) ⌝ }
+    ensures answer { λ r. ⌜ Says r (gridExtractAnswer mode2k (now (symbol .entry)) (now (out .entry))) ⌝ }
+    ensures output { λ _. ⌜ now (out .exit) ≡ gridExtractLeaves mode2k (now (symbol .entry)) (now (out .entry)) ⌝ }
 {
     numbers_of(grid::grid_extract(symbol, out))
 }

@@ -1,17 +1,26 @@
-// The energy-dispersal whitener, for C.
+// The whitener of energy dispersal (4.3.1).
 ghost use mathlib.Core.Path.{_≡_};
-ghost use Prim.Native.Nat.{_*_, _%_, _^_};
-ghost use lib.ListN.{length};
-ghost use Rattle.ground.specs.Answer.{counted, kept, written};
-ghost use Rattle.dispersal.specs.Register.{start, after, whitened};
-ghost use Rattle.dispersal.specs.Whitener.{feedNo};
-ghost use Rattle.saltkernel.specs.Numbers.{Says};
-use super::SaltDvbTEnergyDispersal;
-use super::SaltFed;
+ghost use Rattle.dispersal.specs.Register.{start, steps};
+ghost use Rattle.dispersal.specs.Whitener.{registerOf, feedInPlaceAnswer, feedInPlaceLeaves, feedAnswer, feedLeaves};
+ghost use Rattle.saltkernel.specs.Numbers.{whitenerOf, SaysWhitened};
+use super::SaltCounted;
 use super::numbers_of;
 use dispersal::DvbTEnergyDispersal;
 
-// DvbTEnergyDispersal::new.
+// The whitener: its register is the low 15 bits.
+#[repr(C)]
+pub struct SaltDvbTEnergyDispersal {
+    pub reg: u16,
+}
+
+// A whitener, and the count or the refusal.
+#[repr(C)]
+pub struct SaltFed {
+    pub whitener: SaltDvbTEnergyDispersal,
+    pub answer: SaltCounted,
+}
+
+// A whitener at the start, register 0x4A80.
 #[no_mangle]
 pub extern "C" fn salt_dvb_t_energy_dispersal_new() -> SaltDvbTEnergyDispersal
     ensures { λ r. ⌜ r .reg ≡ start ⌝ }
@@ -20,7 +29,7 @@ pub extern "C" fn salt_dvb_t_energy_dispersal_new() -> SaltDvbTEnergyDispersal
     SaltDvbTEnergyDispersal { reg: whitener.reg }
 }
 
-// DvbTEnergyDispersal::reset.
+// The whitener at the start again.
 #[no_mangle]
 pub extern "C" fn salt_dvb_t_energy_dispersal_reset(
     whitener: SaltDvbTEnergyDispersal,
@@ -31,40 +40,40 @@ pub extern "C" fn salt_dvb_t_energy_dispersal_reset(
     SaltDvbTEnergyDispersal { reg: reset.reg }
 }
 
-// DvbTEnergyDispersal::advance_byte.
+// The whitener eight steps on, as over a byte that stays as it is.
 #[no_mangle]
 pub extern "C" fn salt_dvb_t_energy_dispersal_advance_byte(
     whitener: SaltDvbTEnergyDispersal,
 ) -> SaltDvbTEnergyDispersal
-    ensures { λ r. ⌜ r .reg ≡ after 8 (whitener .reg % 2 ^ 15) ⌝ }
+    ensures { λ r. ⌜ r .reg ≡ steps 8 (registerOf (whitenerOf whitener)) ⌝ }
 {
     let moved = DvbTEnergyDispersal { reg: whitener.reg }.advance_byte();
     SaltDvbTEnergyDispersal { reg: moved.reg }
 }
 
-// DvbTEnergyDispersal::feed_in_place.
+// Whitens bytes in place, high bit first, and returns the whitener behind them.
 #[no_mangle]
 pub extern "C" fn salt_dvb_t_energy_dispersal_feed_in_place(
     whitener: SaltDvbTEnergyDispersal,
     bytes: &mut [u8],
 ) -> SaltDvbTEnergyDispersal
-    ensures whitener { λ r. ⌜ r .reg ≡ after (8 * length (now (bytes .entry))) (whitener .reg % 2 ^ 15) ⌝ }
-    ensures bytes { λ _. ⌜ now (bytes .exit) ≡ whitened (whitener .reg % 2 ^ 15) (now (bytes .entry)) ⌝ }
+    ensures answer { λ r. ⌜ whitenerOf r ≡ feedInPlaceAnswer (whitenerOf whitener) (now (bytes .entry)) ⌝ }
+    ensures bytes { λ _. ⌜ now (bytes .exit) ≡ feedInPlaceLeaves (whitenerOf whitener) (now (bytes .entry)) ⌝ }
 {
     let fed = DvbTEnergyDispersal { reg: whitener.reg }.feed_in_place(bytes);
     SaltDvbTEnergyDispersal { reg: fed.reg }
 }
 
-// DvbTEnergyDispersal::feed.
+// Whitens bytes into an output. Answers the bytes written and the whitener behind them.
+// Refusals: 3 OUTPUT SHORT.
 #[no_mangle]
 pub extern "C" fn salt_dvb_t_energy_dispersal_feed(
     whitener: SaltDvbTEnergyDispersal,
     bytes: &[u8],
     out: &mut [u8],
 ) -> SaltFed
-    ensures answer { λ r. ⌜ Says (r .answer) (counted (feedNo (now (bytes .entry)) (now (out .entry))) (length (now (bytes .entry)))) ⌝ }
-    ensures whitener { λ r. ⌜ r .whitener .reg ≡ kept (feedNo (now (bytes .entry)) (now (out .entry))) (after (8 * length (now (bytes .entry))) (whitener .reg % 2 ^ 15)) (whitener .reg) ⌝ }
-    ensures output { λ _. ⌜ now (out .exit) ≡ kept (feedNo (now (bytes .entry)) (now (out .entry))) (written (whitened (whitener .reg % 2 ^ 15) (now (bytes .entry))) (now (out .entry))) (now (out .entry)) ⌝ }
+    ensures fed { λ r. ⌜ SaysWhitened r (feedAnswer (whitenerOf whitener) (now (bytes .entry)) (now (out .entry))) ⌝ }
+    ensures out { λ _. ⌜ now (out .exit) ≡ feedLeaves (whitenerOf whitener) (now (bytes .entry)) (now (out .entry)) ⌝ }
 {
     let fed = DvbTEnergyDispersal { reg: whitener.reg }.feed(bytes, out);
     let moved = fed.whitener;

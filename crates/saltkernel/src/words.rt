@@ -1,146 +1,56 @@
-// The TPS word, packed and unpacked, for C.
+// The TPS word (4.6.2).
 ghost use mathlib.Core.Path.{_≡_};
-ghost use Rattle.ground.specs.Answer.{counted};
-ghost use Rattle.tps.specs.Word.{constellationCode, rateCode, guardCode};
-ghost use Rattle.tps.specs.Promise.{Unpacks};
+ghost use Rattle.tps.specs.Codes.{codesOf};
+ghost use Rattle.tps.specs.Packing.{Unpacks};
 ghost use Rattle.saltkernel.specs.Numbers.{Says};
-ghost use Rattle.saltkernel.specs.Words.{constellationOf, rateOf, guardOf, reserved, wordOf, codesOf, packNo, packLeaves, SaysUnpacked, SaysOneThat};
+ghost use Rattle.saltkernel.specs.Words.{codesFor, wordIn, packAnswer, packLeaves, SaysUnpacked, SaysOneThat};
 use super::SaltCounted;
 use super::numbers_of;
-use tps::ConstellationOrder;
-use tps::GuardInterval;
-use tps::PunctureRate;
 use tps::TpsWord;
 use tps::Unpacked;
+use tps::inner::Codes;
 
-// A word: the constellation, the rate and the guard interval are EN 300 744's codes, 0..2, 0..4 and 0..3.
+// The parameters that a frame signals; constellation, rate and guard interval by their codes.
 #[repr(C)]
 pub struct SaltTpsWord {
-    pub frame_number: u8,
-    pub constellation: u8,
-    pub code_rate_hp: u8,
-    pub guard: u8,
+    pub frame_number: u8, // its low two bits are sent
+    pub constellation: u8, // 0 QPSK, 1 16-QAM, 2 64-QAM
+    pub code_rate_hp: u8, // 0 to 4 for 1/2, 2/3, 3/4, 5/6, 7/8
+    pub guard: u8, // 0 to 3 for 1/32, 1/16, 1/8, 1/4
     pub cell_id: u8,
 }
 
-// A word, or a refusal's number: the number is 0 where the call was accepted, and elsewhere the word is zero throughout.
+// A word, or a refusal's number and zeros.
 #[repr(C)]
 pub struct SaltUnpacked {
     pub number: u8,
     pub word: SaltTpsWord,
 }
 
-// The constellation of a code, a code above 2 taken as 2.
-fn constellation_of(code: u8) -> ConstellationOrder
-    ensures { λ r. ⌜ r ≡ constellationOf code ⌝ }
+// The word that codes say, or RESERVED where one of them stands for nothing.
+pub(crate) fn word_of(word: SaltTpsWord) -> Unpacked
+    ensures { λ r. ⌜ r ≡ wordIn word ⌝ }
 {
-    match code {
-        0 => ConstellationOrder::Qpsk,
-        1 => ConstellationOrder::Qam16,
-        _ => ConstellationOrder::Qam64,
-    }
-}
-
-// The rate of a code, a code above 4 taken as 4.
-fn rate_of(code: u8) -> PunctureRate
-    ensures { λ r. ⌜ r ≡ rateOf code ⌝ }
-{
-    match code {
-        0 => PunctureRate::R1_2,
-        1 => PunctureRate::R2_3,
-        2 => PunctureRate::R3_4,
-        3 => PunctureRate::R5_6,
-        _ => PunctureRate::R7_8,
-    }
-}
-
-// The guard interval of a code, a code above 3 taken as 3.
-fn guard_of(code: u8) -> GuardInterval
-    ensures { λ r. ⌜ r ≡ guardOf code ⌝ }
-{
-    match code {
-        0 => GuardInterval::G1_32,
-        1 => GuardInterval::G1_16,
-        2 => GuardInterval::G1_8,
-        _ => GuardInterval::G1_4,
-    }
-}
-
-// Whether a code stands for nothing.
-pub(crate) fn reserved_code(word: SaltTpsWord) -> bool
-    ensures { λ r. ⌜ r ≡ reserved word ⌝ }
-{
-    if 2 < word.constellation {
-        return true;
-    }
-    if 4 < word.code_rate_hp {
-        return true;
-    }
-    3 < word.guard
-}
-
-// The word that the codes say.
-pub(crate) fn word_of(word: SaltTpsWord) -> TpsWord
-    ensures { λ r. ⌜ r ≡ wordOf word ⌝ }
-{
-    TpsWord {
-        frame_number: word.frame_number,
-        constellation: constellation_of(word.constellation),
-        code_rate_hp: rate_of(word.code_rate_hp),
-        guard: guard_of(word.guard),
-        cell_id: word.cell_id,
-    }
-}
-
-// The code of a constellation.
-fn constellation_number(constellation: ConstellationOrder) -> u8
-    ensures { λ r. ⌜ r ≡ constellationCode constellation ⌝ }
-{
-    match constellation {
-        ConstellationOrder::Qpsk => 0,
-        ConstellationOrder::Qam16 => 1,
-        ConstellationOrder::Qam64 => 2,
-    }
-}
-
-// The code of a rate.
-fn rate_number(rate: PunctureRate) -> u8
-    ensures { λ r. ⌜ r ≡ rateCode rate ⌝ }
-{
-    match rate {
-        PunctureRate::R1_2 => 0,
-        PunctureRate::R2_3 => 1,
-        PunctureRate::R3_4 => 2,
-        PunctureRate::R5_6 => 3,
-        PunctureRate::R7_8 => 4,
-    }
-}
-
-// The code of a guard interval.
-fn guard_number(guard: GuardInterval) -> u8
-    ensures { λ r. ⌜ r ≡ guardCode guard ⌝ }
-{
-    match guard {
-        GuardInterval::G1_32 => 0,
-        GuardInterval::G1_16 => 1,
-        GuardInterval::G1_8 => 2,
-        GuardInterval::G1_4 => 3,
-    }
+    tps::inner::word_of(Codes {
+        frame: word.frame_number,
+        constellation: word.constellation,
+        rate: word.code_rate_hp,
+        guard: word.guard,
+        cell: word.cell_id,
+    })
 }
 
 // The codes of a word.
 fn codes_of(word: TpsWord) -> SaltTpsWord
-    ensures { λ r. ⌜ r ≡ codesOf word ⌝ }
+    ensures { λ r. ⌜ r ≡ codesFor (codesOf word) ⌝ }
 {
-    let constellation = word.constellation;
-    let rate = word.code_rate_hp;
-    let guard = word.guard;
+    let codes = tps::inner::codes_of(word);
     SaltTpsWord {
-        frame_number: word.frame_number,
-        constellation: constellation_number(constellation),
-        code_rate_hp: rate_number(rate),
-        guard: guard_number(guard),
-        cell_id: word.cell_id,
+        frame_number: codes.frame,
+        constellation: codes.constellation,
+        code_rate_hp: codes.rate,
+        guard: codes.guard,
+        cell_id: codes.cell,
     }
 }
 
@@ -166,10 +76,11 @@ pub(crate) fn unpacked_numbers_of(answer: Unpacked) -> SaltUnpacked
     }
 }
 
-// TpsWord::pack.
+// The 68 bits s0 to s67 of a word: s0 is zero, then the codeword. Answers 68.
+// Refusals: 3 OUTPUT SHORT, 5 RESERVED (constellation above 2, rate above 4 or guard above 3).
 #[no_mangle]
 pub extern "C" fn salt_tps_word_pack(word: SaltTpsWord, out: &mut [u8]) -> SaltCounted
-    ensures answer { λ r. ⌜ Says r (counted (packNo word (now (out .entry))) 68) ⌝ }
+    ensures answer { λ r. ⌜ Says r (packAnswer word (now (out .entry))) ⌝ }
     ensures output { λ _. ⌜ now (out .exit) ≡ packLeaves word (now (out .entry)) ⌝ }
 {
     if out.len() < 68 {
@@ -178,16 +89,18 @@ pub extern "C" fn salt_tps_word_pack(word: SaltTpsWord, out: &mut [u8]) -> SaltC
             count: 0,
         };
     }
-    if reserved_code(word) {
+    let Unpacked::Word(known) = word_of(word) else {
         return SaltCounted {
             number: ground::RESERVED,
             count: 0,
         };
-    }
-    numbers_of(word_of(word).pack(out))
+    };
+    numbers_of(known.pack(out))
 }
 
-// TpsWord::unpack.
+// The word that 68 received bits s0 to s67 say, with up to two wrong bits mended; s0 is ignored. The frame number is 0
+// to 3.
+// Refusals: 1 LENGTH (not 68), 2 NOT A BIT, 4 NO WORD, 5 RESERVED.
 #[no_mangle]
 pub extern "C" fn salt_tps_word_unpack(bits: &[u8]) -> SaltUnpacked
     ensures { λ r. ⌜ SaysOneThat (Unpacks (now (bits .entry))) r ⌝ }

@@ -7,11 +7,11 @@ use lib.Ieee.{Float}
 use lib.ListN.{length, length-append}
 use Rattle.carriers.specs.Mode.{mode2k}
 use Rattle.carriers.specs.Carriers.{tpsBins}
-use Rattle.carriers.specs.Cells.{cellAt, flat}
-use Rattle.carriers.proofs.Cells.{flat-length}
+use Rattle.ground.specs.Cells.{cellAt, flat}
+use Rattle.ground.proofs.Cells.{flat-length}
 use Rattle.grid.specs.Symbol.{cellsAt}
 use Rattle.tps.specs.Receive.{firstCells}
-use Rattle.tps.proofs.Received.{cells-back}
+use Rattle.tps.proofs.FirstCells.{cells-back}
 use Rattle.session.specs.Session.{PLACE, tpsCells}
 use Rattle.session.specs.History.{cellsOf}
 use Rattle.session.proofs.Places.{tps-length}

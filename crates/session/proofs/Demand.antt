@@ -8,18 +8,18 @@ use Prim.Native.Nat.{ℕ, _≤_}
 use lib.Ieee.{Float}
 use lib.ListN.{length, take}
 use Rattle.ground.specs.Refusal.{ACCEPTED}
-use Rattle.tps.specs.declared.TpsDecoder.{TpsDecoder}
-use Rattle.tps.specs.declared.Unpacked.{Unpacked}
+use Rattle.tps.specs.declared.receiver.TpsDecoder.{TpsDecoder}
+use Rattle.tps.specs.declared.word.Unpacked.{Unpacked}
 use Rattle.tps.specs.Receive as receive
 use Rattle.tps.proofs.Determined.{word-determined}
 use Rattle.session.specs.declared.Session.{Session}
 use Rattle.session.specs.declared.Fed.{Fed}
 use Rattle.session.specs.declared.SteppedBack.{SteppedBack}
-use Rattle.session.specs.Session.{JOURNAL, decoderOf, Feeds, steppedOf, stepNumber, Words}
+use Rattle.session.specs.Session.{JOURNAL, decoderOf, Feeds, stepBackAnswer, stepNumber, Words}
 use Rattle.session.specs.History.{Op, Run, standingOf, feeds, used, shown, decoderAfter}
 use Rattle.session.specs.Demand.{Fits, Steps, FeedRight, BackRight, WordRight}
 use Rattle.session.proofs.Cases.{feed-cases, taken-exactly, stepped-exactly}
-use Rattle.session.proofs.Decoder.{held, decoder-held}
+use Rattle.session.proofs.Decoder.{bits-held, decoder-is-after}
 use Rattle.session.proofs.History.{history, same-session, same-used, same-shown, fed-alone}
 use Rattle.session.proofs.Feeding.{fed-right}
 use Rattle.session.proofs.Stepping.{stepped-right}
@@ -52,11 +52,11 @@ feed-refused-exactly {j₀} {j} {os} y d m any fed =
     rw (demand-3-feed y d m any fed .number) (taken-exactly (length y) (length d) (length (take m j)) (length (standingOf (length j₀) os)))
 
 -- a step back after any run is right, and accepted exactly where the journal suffices and some symbol stands
-pub demand-3-back : {j₀ j : List Float} {os : List Op} {s : Session} (m : ℕ) {r : SteppedBack} → Run j₀ os s j → r ≡ steppedOf s (take m j)
+pub demand-3-back : {j₀ j : List Float} {os : List Op} {s : Session} (m : ℕ) {r : SteppedBack} → Run j₀ os s j → r ≡ stepBackAnswer s (take m j)
     → BackRight (standingOf (length j₀) os) s (take m j) r
 demand-3-back m any e = stepped-right m any e
 
-pub back-refused-exactly : {j₀ j : List Float} {os : List Op} {s : Session} (m : ℕ) {r : SteppedBack} → Run j₀ os s j → r ≡ steppedOf s (take m j)
+pub back-refused-exactly : {j₀ j : List Float} {os : List Op} {s : Session} (m : ℕ) {r : SteppedBack} → Run j₀ os s j → r ≡ stepBackAnswer s (take m j)
     → (stepNumber (r .answer) ≡ ACCEPTED) ↔ Steps (length (take m j)) (length (standingOf (length j₀) os))
 back-refused-exactly {j₀} {j} {os} m any e =
     rw (demand-3-back m any e .number) (stepped-exactly (length (take m j)) (length (standingOf (length j₀) os)))
@@ -67,9 +67,9 @@ demand-3-word {j₀} {j} {os} {s} {r} any w =
     let st : List (List Float) = standingOf (length j₀) os in
     let h = history any in
     let d = decoderAfter st in
-    let e : decoderOf s ≡ d = ap decoderOf (h .session) ∙ decoder-held st (h .few) in
+    let e : decoderOf s ≡ d = ap decoderOf (h .session) ∙ decoder-is-after st (h .few) in
     let v : receive.Words d r = subst (λ (x : TpsDecoder). receive.Words x r) e w in
-    let k = held st (h .few) in
+    let k = bits-held st (h .few) in
     record {
       below = λ l. word-below (length st) d r k l v;
       full = λ l. word-full d r (rw l at k) v;

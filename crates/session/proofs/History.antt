@@ -11,7 +11,7 @@ use Rattle.session.specs.Session.{SYMBOLS, PLACE, JOURNAL}
 use Rattle.session.specs.History.{Op, Run, start, next, after, standingOf, feeds, used, shown, decoderAfter, cellsOf}
 use Rattle.session.proofs.Numbers.{feed-taken}
 use Rattle.session.specs.Demand.{Tall, Holds}
-use Rattle.session.proofs.Decoder.{held}
+use Rattle.session.proofs.Decoder.{bits-held}
 use Rattle.session.proofs.OneCall.{one-call}
 
 pub history : {j₀ j : List Float} {os : List Op} {s : Session} → Run j₀ os s j → Holds (length j₀) (standingOf (length j₀) os) s j
@@ -21,7 +21,7 @@ history (next o r c) = one-call o (history r) c
 
 used-cells : {lj : ℕ} {st : List (List Float)} {s : Session} {j : List Float} → Holds lj st s j → used s j ≡ cellsOf st
 used-cells {lj} {st} {s} {j} h =
-    ap (λ (n : ℕ). take (n * PLACE) j) (ap (λ (x : Session). x .count) (h .session) ∙ held st (h .few) .count) ∙ h .cells
+    ap (λ (n : ℕ). take (n * PLACE) j) (ap (λ (x : Session). x .count) (h .session) ∙ bits-held st (h .few) .count) ∙ h .cells
 
 module _ {st : List (List Float)} {s t : Session} {j k : List Float} {lj lk : ℕ} (h : Holds lj st s j) (g : Holds lk st t k) where
   pub same-session : s ≡ t

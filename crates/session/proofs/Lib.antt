@@ -1,7 +1,6 @@
 pub mod Numbers
 pub mod Places
 pub mod Calls
-pub mod Symbols
 pub mod Cases
 pub mod Cells
 pub mod Journal

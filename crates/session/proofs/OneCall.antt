@@ -12,7 +12,7 @@ use Rattle.carriers.specs.Mode.{mode2k}
 use Rattle.session.specs.declared.Session.{Session}
 use Rattle.session.specs.declared.Fed.{Fed}
 use Rattle.session.specs.declared.SteppedBack.{SteppedBack}
-use Rattle.session.specs.Session.{SYMBOLS, PLACE, tpsCells, standing, sessionOf, feedNo, inPlace, stepNo, backTo}
+use Rattle.session.specs.Session.{SYMBOLS, PLACE, tpsCells, standing, sessionOf, feedNoOf, inPlace, stepBackNoOf, backTo}
 use Rattle.session.specs.History.{
   Op,
   feed,
@@ -31,7 +31,7 @@ use Rattle.session.proofs.Cases.{feed-cases, fits-taken, same-fed, step
 use Rattle.session.proofs.Places.{tps-length}
 use Rattle.session.proofs.Cells.{length-cells}
 use Rattle.session.proofs.Journal.{lent-length, filled, filled-cells, filled-length, cells-kept}
-use Rattle.session.proofs.Decoder.{standing-held, fed-held, back-held}
+use Rattle.session.proofs.Decoder.{standing-is-length, fed-is-after, back-is-before}
 
 place-next : (n : ℕ) → suc n * PLACE ≡ n * PLACE + PLACE
 place-next n = omega arith
@@ -41,22 +41,22 @@ place-next n = omega arith
 module _ (lj : ℕ) (st : List (List Float)) (j : List Float) (few : length st ≤ SYMBOLS) (tall : Tall st) (size : length j ≡ lj)
     (cells : take (length st * PLACE) j ≡ cellsOf st) where
   fed-on : {s′ : Session} {j′ : List Float} (y : List Float) (room m : ℕ) → FeedCall y room m (sessionOf (decoderAfter st)) j s′ j′
-      → Fits (length y) room (min m lj) (length st) ⊎ ((k : ℕ) × (feedNo (length y) room (min m lj) (length st) ≡ suc k))
+      → Fits (length y) room (min m lj) (length st) ⊎ ((k : ℕ) × (feedNoOf (length y) room (min m lj) (length st) ≡ suc k))
       → Holds lj (after lj (feed y room m) st) s′ j′
   unfolding after cellsOf inPlace
   fed-on {s′} {j′} y room m c (inl f) =
       let s = sessionOf (decoderAfter st) in
       let a = length st * PLACE in
       let t = tpsCells mode2k y in
-      let e : feedNo (length y) room (min m lj) (length st) ≡ ACCEPTED = fits-taken f in
-      let p = same-fed (c .promise) (fed-accepted s y (c .given) (take m j) (rw (c .given-length, lent-length m lj j size, standing-held st few) e)) in
+      let e : feedNoOf (length y) room (min m lj) (length st) ≡ ACCEPTED = fits-taken f in
+      let p = same-fed (c .promise) (fed-accepted s y (c .given) (take m j) (rw (c .given-length, lent-length m lj j size, standing-is-length st few) e)) in
       let g : j′ ≡ filled PLACE j a m t =
-      c .journal ∙ ap (λ (z : List Float). z ++ drop m j) (p .2) ∙ ap (λ (n : ℕ). inPlace n t (take m j) ++ drop m j) (standing-held st few)
+      c .journal ∙ ap (λ (z : List Float). z ++ drop m j) (p .2) ∙ ap (λ (n : ℕ). inPlace n t (take m j) ++ drop m j) (standing-is-length st few)
       in
       let r : a + PLACE ≤ min m (length j) = omega (arith, f .few, f .room) in
       rw e
       (record {
-        session = c .session ∙ ap (λ (x : Fed). x .session) (p .0) ∙ fed-held st y few;
+        session = c .session ∙ ap (λ (x : Fed). x .session) (p .0) ∙ fed-is-after st y few;
         few = f .few;
         tall = (f .tall, tall);
         size = ap length g ∙ filled-length PLACE j a m t (tps-length y) r ∙ size;
@@ -65,7 +65,7 @@ module _ (lj : ℕ) (st : List (List Float)) (j : List Float) (few : length st �
       })
   fed-on {s′} {j′} y room m c (inr k) =
       let s = sessionOf (decoderAfter st) in
-      let p = same-fed (c .promise) (fed-refused s y (c .given) (take m j) (k .0) (rw (c .given-length, lent-length m lj j size, standing-held st few) (k .1))) in
+      let p = same-fed (c .promise) (fed-refused s y (c .given) (take m j) (k .0) (rw (c .given-length, lent-length m lj j size, standing-is-length st few) (k .1))) in
       let g : j′ ≡ j = c .journal ∙ ap (λ (z : List Float). z ++ drop m j) (p .2) ∙ take-append-drop m j in
       rw (k .1)
       (record {
@@ -79,14 +79,14 @@ module _ (lj : ℕ) (st : List (List Float)) (j : List Float) (few : length st �
 module _ (lj : ℕ) (j : List Float) (size : length j ≡ lj) where
   back-on : {s′ : Session} {j′ : List Float} (st : List (List Float)) (few : length st ≤ SYMBOLS) (tall : Tall st)
       (cells : take (length st * PLACE) j ≡ cellsOf st) (m : ℕ) → BackCall m (sessionOf (decoderAfter st)) j s′ j′
-      → Steps (min m lj) (length st) ⊎ ((k : ℕ) × (stepNo (min m lj) (length st) ≡ suc k)) → Holds lj (after lj (back m) st) s′ j′
+      → Steps (min m lj) (length st) ⊎ ((k : ℕ) × (stepBackNoOf (min m lj) (length st) ≡ suc k)) → Holds lj (after lj (back m) st) s′ j′
   unfolding after cellsOf
   back-on [] few tall cells m c (inl f) = absurd (f .some refl)
   back-on {s′} {j′} (y ∷ st) few tall cells m c (inl f) =
       let s = sessionOf (decoderAfter (y ∷ st)) in
-      let n : standing s ≡ suc (length st) = standing-held (y ∷ st) few in
+      let n : standing s ≡ suc (length st) = standing-is-length (y ∷ st) few in
       let n₁ : standing s - 1 ≡ length st = omega arith in
-      let e : stepNo (min m lj) (suc (length st)) ≡ ACCEPTED = steps-taken f in
+      let e : stepBackNoOf (min m lj) (suc (length st)) ≡ ACCEPTED = steps-taken f in
       let b : take (length st * PLACE) j ≡ cellsOf st =
       cells-kept PLACE j (cellsOf st) (tpsCells mode2k y) (length st * PLACE) (rw (← place-next (length st)) cells) (length-cells st)
       in
@@ -94,7 +94,7 @@ module _ (lj : ℕ) (j : List Float) (size : length j ≡ lj) where
       (record {
         session =
             c .session ∙ ap (λ (x : SteppedBack). x .session) (c .promise ∙ stepped-taken s (take m j) (rw (lent-length m lj j size, n) e))
-            ∙ ap (λ (k : ℕ). backTo k s (take m j)) n₁ ∙ back-held st y j m few b (omega (arith, f .room));
+            ∙ ap (λ (k : ℕ). backTo k s (take m j)) n₁ ∙ back-is-before st y j m few b (omega (arith, f .room));
         few = omega arith;
         tall = tall .1;
         size = ap length (c .journal) ∙ size;
@@ -104,7 +104,7 @@ module _ (lj : ℕ) (j : List Float) (size : length j ≡ lj) where
       let s = sessionOf (decoderAfter st) in
       rw (k .1)
       (record {
-        session = c .session ∙ ap (λ (x : SteppedBack). x .session) (c .promise ∙ stepped-refused s (take m j) (k .0) (rw (lent-length m lj j size, standing-held st few) (k .1)));
+        session = c .session ∙ ap (λ (x : SteppedBack). x .session) (c .promise ∙ stepped-refused s (take m j) (k .0) (rw (lent-length m lj j size, standing-is-length st few) (k .1)));
         few = few;
         tall = tall;
         size = ap length (c .journal) ∙ size;

@@ -11,9 +11,9 @@ use borrow.Rule.Slice.PartMut.{midOf, putMid}
 use Rattle.ground.specs.Answer.{written}
 use Rattle.carriers.specs.Mode.{mode2k, tps2k}
 use Rattle.carriers.specs.Carriers.{tpsBins}
-use Rattle.carriers.specs.Cells.{cellAt}
+use Rattle.ground.specs.Cells.{cellAt}
 use Rattle.carriers.proofs.Facts.{facts2k}
-use Rattle.carriers.proofs.Cells.{flat-length}
+use Rattle.ground.proofs.Cells.{flat-length}
 use Rattle.grid.specs.Symbol.{Bins, cellsAt}
 use Rattle.grid.proofs.Lent.{tps-bins-in, lent-bins}
 use Rattle.tps.specs.Receive.{firstCells}

@@ -6,27 +6,27 @@ use lib.Ieee.{Float}
 use lib.ListN.{length, take, drop, replicate, length-replicate}
 use Rattle.ground.specs.Answer.{kept}
 use Rattle.carriers.specs.Mode.{mode2k}
-use Rattle.carriers.specs.Pilots.{null}
+use Rattle.ground.specs.Cells.{plusZero}
 use Rattle.session.specs.declared.Session.{Session}
 use Rattle.session.specs.declared.Fed.{Fed}
 use Rattle.session.specs.declared.SteppedBack.{SteppedBack}
-use Rattle.session.specs.Session.{tpsCells, standing, fresh, feedNo, fedBy, fedRefused, inPlace, fedOf, fedData, fedJournal, steppedOf}
+use Rattle.session.specs.Session.{tpsCells, standing, fresh, feedNoOf, fedBy, fedRefused, inPlace, feedAnswer, feedDataLeaves, feedJournalLeaves, stepBackAnswer}
 use Rattle.session.specs.History.{Op, feed, back, reset, Call, Run, start, next}
 
 pub runs : (j₀ : List Float) (os : List Op) → (s : Session) × (j : List Float) × Run j₀ os s j
 runs j₀ [] = (fresh, j₀, start refl)
 runs j₀ (feed y room m ∷ os) =
     let (s, j, r) = runs j₀ os in
-    let d : List Float = replicate room null in
-    let a = fedOf s y d (take m j) in
-    let p = fedJournal s y d (take m j) in (
+    let d : List Float = replicate room plusZero in
+    let a = feedAnswer s y d (take m j) in
+    let p = feedJournalLeaves s y d (take m j) in (
       a .session,
       p ++ drop m j,
       next (feed y room m) r (record {
         given = d;
-        given-length = length-replicate room null;
+        given-length = length-replicate room plusZero;
         answer = a;
-        out = fedData s y d (take m j);
+        out = feedDataLeaves s y d (take m j);
         part = p;
         promise = record { result = refl; data-cells = refl; journal-cells = refl };
         session = refl;
@@ -35,7 +35,7 @@ runs j₀ (feed y room m ∷ os) =
     )
 runs j₀ (back m ∷ os) =
     let (s, j, r) = runs j₀ os in
-    let a = steppedOf s (take m j) in
+    let a = stepBackAnswer s (take m j) in
     (a .session, j, next (back m) r (record { answer = a; promise = refl; session = refl; journal = refl }))
 runs j₀ (reset ∷ os) = let (s, j, r) = runs j₀ os in (fresh, j, next reset r (record { promise = refl; journal = refl }))
 
@@ -43,14 +43,14 @@ runs j₀ (reset ∷ os) = let (s, j, r) = runs j₀ os in (fresh, j, next reset
 
 -- of the output that a feed is given only its length counts for the session and the journal
 module _ (s : Session) (y p d d′ : List Float) (n : length d ≡ length d′) where
-  same-answers : fedOf s y d p ≡ fedOf s y d′ p
+  same-answers : feedAnswer s y d p ≡ feedAnswer s y d′ p
   same-answers =
       ap
-      (λ (k : ℕ). kept (feedNo (length y) k (length p) (standing s)) (fedBy s (tpsCells mode2k y)) (fedRefused (feedNo (length y) k (length p) (standing s)) s))
+      (λ (k : ℕ). kept (feedNoOf (length y) k (length p) (standing s)) (fedBy s (tpsCells mode2k y)) (fedRefused (feedNoOf (length y) k (length p) (standing s)) s))
       n
 
-  same-journals : fedJournal s y d p ≡ fedJournal s y d′ p
-  same-journals = ap (λ (k : ℕ). kept (feedNo (length y) k (length p) (standing s)) (inPlace (standing s) (tpsCells mode2k y) p) p) n
+  same-journals : feedJournalLeaves s y d p ≡ feedJournalLeaves s y d′ p
+  same-journals = ap (λ (k : ℕ). kept (feedNoOf (length y) k (length p) (standing s)) (inPlace (standing s) (tpsCells mode2k y) p) p) n
 
 -- two calls that meet one promise lead to the same session and journal
 same-call : (o : Op) (s : Session) (j : List Float) {s₁ s₂ : Session} {j₁ j₂ : List Float} → Call o s j s₁ j₁ → Call o s j s₂ j₂

@@ -8,7 +8,7 @@ use lib.ListN.{length}
 use Rattle.ground.specs.Refusal.{ACCEPTED}
 use Rattle.tps.specs.Receive.{bitNumber}
 use Rattle.session.specs.declared.Session.{Session}
-use Rattle.session.specs.Session.{feedNo, stepNo, stepNumber}
+use Rattle.session.specs.Session.{feedNoOf, stepBackNoOf, stepNumber}
 use Rattle.session.specs.History.{Op, feed, back, FeedCall, BackCall, Run, next, after, standingOf, shown}
 use Rattle.session.specs.Demand.{Holds}
 use Rattle.session.proofs.Journal.{lent-length}
@@ -21,7 +21,7 @@ module _ {j₀ j j₁ j₂ : List Float} {os : List Op} {s s₁ s₂ : Session} 
   fed-run : Run j₀ (feed y room m ∷ os) s₁ j₁
   fed-run = next (feed y room m) any f
 
-  feed-zero : feedNo (length y) room (min m (length j₀)) (length (standingOf (length j₀) os)) ≡ ACCEPTED
+  feed-zero : feedNoOf (length y) room (min m (length j₀)) (length (standingOf (length j₀) os)) ≡ ACCEPTED
   feed-zero =
       rw (← f .given-length, ← lent-length m (length j₀) j (history any .size)) (sym (demand-3-feed y (f .given) m any (f .promise) .number) ∙ fed)
 
@@ -29,7 +29,7 @@ module _ {j₀ j j₁ j₂ : List Float} {os : List Op} {s s₁ s₂ : Session} 
   unfolding standingOf after
   one-more = rw feed-zero
 
-  step-zero : stepNo (min l (length j₀)) (suc (length (standingOf (length j₀) os))) ≡ ACCEPTED
+  step-zero : stepBackNoOf (min l (length j₀)) (suc (length (standingOf (length j₀) os))) ≡ ACCEPTED
   step-zero =
       rw (← lent-length l (length j₀) j₁ (history fed-run .size)) (sym (rw one-more at (demand-3-back l fed-run (b .promise) .number)) ∙ stepped)
 

@@ -1,35 +1,36 @@
--- Document 01, demand 3: what any run of feeds, step backs and resets leaves, refused ones among them, said over the promises alone.
--- Lists of operations and of symbols are newest first.
+-- Document 01, demand 3: what any run of feeds, step backs and resets leaves, refused ones among them, said over the
+-- promises alone. Lists of operations and of symbols are newest first.
 use mathlib.Core.Path.{_≡_}
 use mathlib.Core.List.{List, [], _∷_, _++_, map}
-use Prim.Native.Nat.{ℕ, zero, suc, _+_, _*_, min}
-use lib.Dec.{eqb}
+use Prim.Native.Nat.{ℕ, _+_, _*_, min}
 use lib.Ieee.{Float}
-use lib.ListN.{length, getD, take, drop}
-use Rattle.ground.specs.Answer.{pick, kept}
+use lib.ListN.{length, take, drop}
+use Rattle.ground.specs.Answer.{kept}
 use Rattle.ground.specs.declared.Cell.{Cell}
 use Rattle.carriers.specs.Mode.{mode2k}
 use Rattle.grid.specs.declared.ScatteredPilotExtractor.{ScatteredPilotExtractor}
 use Rattle.grid.specs.declared.ExtractAnswer.{ExtractAnswer}
 use Rattle.grid.specs.declared.ExtractAnswer.the-variants as extract
-use Rattle.grid.specs.Calls.{extractNo, extractAnswer}
-use Rattle.tps.specs.declared.TpsDecoder.{TpsDecoder}
+use Rattle.grid.specs.Calls.{extractAnswer, extractStateOf}
+use Rattle.tps.specs.declared.receiver.TpsDecoder.{TpsDecoder}
 use Rattle.tps.specs.Receive as receive
 use Rattle.session.specs.declared.Session.{Session}
 use Rattle.session.specs.declared.Fed.{Fed}
 use Rattle.session.specs.declared.SteppedBack.{SteppedBack}
-use Rattle.session.specs.Session.{PLACE, tpsCells, fresh, feedNo, Feeds, nextPhase, stepNo, steppedOf}
+use Rattle.session.specs.Session.{PLACE, tpsCells, fresh, feedNoOf, Feeds, nextPhase, stepBackNoOf}
+use Rattle.session.specs.Session.{stepBackAnswer}
 
 -- ---- a run of calls
 
--- an operation: a feed of a symbol, a step back, a reset. `out` is how long the lent output is, `lent` how much of the journal is lent, from its start:
--- all of it where `lent` is at least its length
+-- an operation: a feed of a symbol, a step back, a reset. `out` is how long the lent output is, `lent` how much of the
+-- journal is lent, from its start: all of it where `lent` is at least its length
 pub data Op : Type 0 where
   feed : (symbol : List Float) (out lent : ℕ) → Op
   back : (lent : ℕ) → Op
   reset : Op
 
--- a call that meets its promise, from the session s and the journal j to s′ and j′; what isn't lent of the journal stays
+-- a call that meets its promise, from the session s and the journal j to s′ and j′; what isn't lent of the journal
+-- stays
 pub record FeedCall (symbol : List Float) (room lent : ℕ) (s : Session) (j : List Float) (s′ : Session) (j′ : List Float) : Type 0 where
   pub given : List Float
   pub given-length : length given ≡ room
@@ -42,7 +43,7 @@ pub record FeedCall (symbol : List Float) (room lent : ℕ) (s : Session) (j : L
 
 pub record BackCall (lent : ℕ) (s : Session) (j : List Float) (s′ : Session) (j′ : List Float) : Type 0 where
   pub answer : SteppedBack
-  pub promise : answer ≡ steppedOf s (take lent j)
+  pub promise : answer ≡ stepBackAnswer s (take lent j)
   pub session : s′ ≡ answer .session
   pub journal : j′ ≡ j
 
@@ -69,8 +70,8 @@ tail (y ∷ st) = st
 
 -- what stands after an operation, where st stood and the journal has lj f32
 unfoldable pub after : ℕ → Op → List (List Float) → List (List Float)
-after lj (feed symbol room lent) st = kept (feedNo (length symbol) room (min lent lj) (length st)) (symbol ∷ st) st
-after lj (back lent) st = kept (stepNo (min lent lj) (length st)) (tail st) st
+after lj (feed symbol room lent) st = kept (feedNoOf (length symbol) room (min lent lj) (length st)) (symbol ∷ st) st
+after lj (back lent) st = kept (stepBackNoOf (min lent lj) (length st)) (tail st) st
 after lj reset st = []
 
 unfoldable pub standingOf : ℕ → List Op → List (List Float)
@@ -103,33 +104,14 @@ shown s j = record { count = s .count; phase = nextPhase s; bits = s .bits; prev
 -- the TPS decoder after feeding it their TPS cells
 unfoldable pub decoderAfter : List (List Float) → TpsDecoder
 decoderAfter [] = receive.freshDecoder
-decoderAfter (y ∷ st) = receive.fedOf (decoderAfter st) (tpsCells mode2k y) .decoder
+decoderAfter (y ∷ st) = receive.feedAnswer (decoderAfter st) (tpsCells mode2k y) .decoder
 
 -- the extractor after extracting them, each into an output like `out`
-abbrev pub extractorIn : ExtractAnswer → ScatteredPilotExtractor
-extractorIn (extract.Extracted x) = x
-extractorIn (extract.Refused k x) = x
-
 unfoldable pub extractorAfter : List Float → List (List Float) → ScatteredPilotExtractor
 extractorAfter out [] = record { phase = 0 }
-extractorAfter out (y ∷ st) = extractorIn (extractAnswer (extractNo mode2k (mode2k .dataCount) y out) (extractorAfter out st))
+extractorAfter out (y ∷ st) = extractStateOf (extractAnswer mode2k (extractorAfter out st) y out)
 
 -- the cells of the standing symbols in a row
 unfoldable pub cellsOf : List (List Float) → List Float
 cellsOf [] = []
 cellsOf (y ∷ st) = cellsOf st ++ tpsCells mode2k y
-
--- ---- a script
-
--- symbol k of symbols in a row, as far as there is one
-unfoldable pub symbolAt : List Float → ℕ → List Float
-symbolAt symbols k = take 4096 (drop (k * 4096) symbols)
-
--- 255 resets, 254 steps back, any lower byte feeds the symbol of its number
-abbrev pub opOf : List Float → ℕ → ℕ → ℕ → Op
-opOf symbols room lj b = pick (eqb b 255) reset (pick (eqb b 254) (back lj) (feed (symbolAt symbols b) room lj))
-
--- the operations of a script's first k bytes, newest first
-unfoldable pub opsOf : List Float → ℕ → ℕ → List ℕ → ℕ → List Op
-opsOf symbols room lj script zero = []
-opsOf symbols room lj script (suc k) = opOf symbols room lj (getD script k 0) ∷ opsOf symbols room lj script k

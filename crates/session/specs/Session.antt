@@ -1,21 +1,23 @@
--- Document 01, 'Receive session': what each call answers, with the session after it, the lent data and the lent journal.
--- With n symbols standing the phase is n mod 4. A count above 68 is treated as 68, a held bit above 1 as 1, and bits not standing read 0.
+-- Document 01, 'Receive session': what each call answers, with the session after it, the lent data and the lent
+-- journal. With n symbols standing the phase is n mod 4. A count above 68 is treated as 68, a held bit above 1 as 1,
+-- and bits not standing read 0.
 use mathlib.Core.Path.{_≡_}
-use mathlib.Core.List.{List, _++_}
+use mathlib.Core.List.{List, [], _∷_, _++_}
 use Prim.Native.Nat.{ℕ, zero, suc, _+_, _-_, _*_, _%_, min}
 use lib.Dec.{eqb, ltb, leb}
 use lib.Ieee.{Float}
 use lib.ListN.{length, take, drop, replicate}
-use Rattle.ground.specs.Refusal.{ACCEPTED, LENGTH, OUTPUT-SHORT, FULL, EMPTY}
-use Rattle.ground.specs.Answer.{pick, kept}
+use Rattle.ground.specs.Refusal.{ACCEPTED, LENGTH, OUTPUT-SHORT, FULL, EMPTY, _gives_, firstOf}
+use Rattle.ground.specs.Answer.{kept}
 use Rattle.ground.specs.declared.Cell.{Cell}
 use Rattle.carriers.specs.Mode.{Mode, mode2k}
 use Rattle.carriers.specs.Carriers.{tpsBins}
-use Rattle.grid.specs.Symbol.{cellsAt, nullCell}
-use Rattle.grid.specs.Calls.{extractLeft}
-use Rattle.tps.specs.declared.TpsDecoder.{TpsDecoder}
-use Rattle.tps.specs.declared.Unpacked.{Unpacked}
-use Rattle.tps.specs.declared.TpsBit.the-variants as bit
+use Rattle.grid.specs.Symbol.{cellsAt}
+use Rattle.ground.specs.Cells.{zeroCell}
+use Rattle.grid.specs.Calls.{extractLeaves}
+use Rattle.tps.specs.declared.receiver.TpsDecoder.{TpsDecoder}
+use Rattle.tps.specs.declared.word.Unpacked.{Unpacked}
+use Rattle.tps.specs.declared.receiver.TpsBit.the-variants as bit
 use Rattle.tps.specs.Receive as receive
 use Rattle.session.specs.declared.Session.{Session}
 use Rattle.session.specs.declared.Fed.{Fed}
@@ -58,17 +60,25 @@ fresh = sessionOf receive.freshDecoder
 
 -- ---- a feed
 
--- by the lengths of the symbol, the lent data and the lent journal, and how many symbols stand
-unfoldable pub feedNo : ℕ → ℕ → ℕ → ℕ → ℕ
-feedNo symbol out journal n =
-    pick (ltb symbol 4096) LENGTH (pick (ltb out 3024) OUTPUT-SHORT (pick (ltb journal JOURNAL) OUTPUT-SHORT (pick (leb SYMBOLS n) FULL ACCEPTED)))
+-- its number, by the lengths of the symbol, the lent data and the lent journal, and how many symbols stand
+unfoldable pub feedNoOf : ℕ → ℕ → ℕ → ℕ → ℕ
+feedNoOf symbol out journal n =
+    firstOf
+    (ltb symbol 4096 gives LENGTH
+    ∷ ltb out 3024 gives OUTPUT-SHORT
+    ∷ ltb journal JOURNAL gives OUTPUT-SHORT
+    ∷ leb SYMBOLS n gives FULL
+    ∷ [])
+
+abbrev pub feedNo : Session → List Float → List Float → List Float → ℕ
+feedNo s symbol out journal = feedNoOf (length symbol) (length out) (length journal) (standing s)
 
 -- an accepted feed answers what the TPS decoder does to the symbol's TPS cells, with the session after it
 unfoldable pub fedBy : Session → List Float → Fed
 fedBy s cells =
     record {
-      answer = receive.fedOf (decoderOf s) cells .answer;
-      session = sessionOf (receive.fedOf (decoderOf s) cells .decoder);
+      answer = receive.feedAnswer (decoderOf s) cells .answer;
+      session = sessionOf (receive.feedAnswer (decoderOf s) cells .decoder);
     }
 
 abbrev pub fedRefused : ℕ → Session → Fed
@@ -78,34 +88,38 @@ fedRefused number s = record { answer = bit.Refused number; session = s }
 unfoldable pub inPlace : ℕ → List Float → List Float → List Float
 inPlace n c journal = take (n * PLACE) journal ++ (c ++ drop (n * PLACE + PLACE) journal)
 
--- what a feed leaves: the data cells are the extractor's, and the TPS cells stand in place n of the journal
-abbrev pub feedNumber : Session → List Float → List Float → List Float → ℕ
-feedNumber s symbol out journal = feedNo (length symbol) (length out) (length journal) (standing s)
+-- what a feed answers and leaves: the data cells are the extractor's, and the TPS cells stand in place n of the
+-- journal
+abbrev pub feedAnswer : Session → List Float → List Float → List Float → Fed
+feedAnswer s symbol out journal =
+    kept (feedNo s symbol out journal) (fedBy s (tpsCells mode2k symbol)) (fedRefused (feedNo s symbol out journal) s)
 
-abbrev pub fedOf : Session → List Float → List Float → List Float → Fed
-fedOf s symbol out journal = kept (feedNumber s symbol out journal) (fedBy s (tpsCells mode2k symbol)) (fedRefused (feedNumber s symbol out journal) s)
+abbrev pub feedDataLeaves : Session → List Float → List Float → List Float → List Float
+feedDataLeaves s symbol out journal = kept (feedNo s symbol out journal) (extractLeaves mode2k (nextPhase s) symbol out) out
 
-abbrev pub fedData : Session → List Float → List Float → List Float → List Float
-fedData s symbol out journal = kept (feedNumber s symbol out journal) (extractLeft mode2k (nextPhase s) symbol out) out
-
-abbrev pub fedJournal : Session → List Float → List Float → List Float → List Float
-fedJournal s symbol out journal = kept (feedNumber s symbol out journal) (inPlace (standing s) (tpsCells mode2k symbol) journal) journal
+abbrev pub feedJournalLeaves : Session → List Float → List Float → List Float → List Float
+feedJournalLeaves s symbol out journal =
+    kept (feedNo s symbol out journal) (inPlace (standing s) (tpsCells mode2k symbol) journal) journal
 
 -- the promise of a feed
 pub record Feeds (s : Session) (symbol out journal : List Float) (r : Fed) (out′ journal′ : List Float) : Type 0 where
-  pub result : r ≡ fedOf s symbol out journal
-  pub data-cells : out′ ≡ fedData s symbol out journal
-  pub journal-cells : journal′ ≡ fedJournal s symbol out journal
+  pub result : r ≡ feedAnswer s symbol out journal
+  pub data-cells : out′ ≡ feedDataLeaves s symbol out journal
+  pub journal-cells : journal′ ≡ feedJournalLeaves s symbol out journal
 
 -- ---- a step back
 
--- by the length of the lent journal, and how many symbols stand
-unfoldable pub stepNo : ℕ → ℕ → ℕ
-stepNo journal n = pick (ltb journal JOURNAL) OUTPUT-SHORT (pick (eqb n 0) EMPTY ACCEPTED)
+-- its number, by the length of the lent journal, and how many symbols stand
+unfoldable pub stepBackNoOf : ℕ → ℕ → ℕ
+stepBackNoOf journal n = firstOf (ltb journal JOURNAL gives OUTPUT-SHORT ∷ eqb n 0 gives EMPTY ∷ [])
 
--- the previous cells with n standing: those of the latest symbol's place in the journal, or +0.0 throughout if none stands
+abbrev pub stepBackNo : Session → List Float → ℕ
+stepBackNo s journal = stepBackNoOf (length journal) (standing s)
+
+-- the previous cells with n standing: those of the latest symbol's place in the journal, or +0.0 throughout if none
+-- stands
 unfoldable pub prevIn : ℕ → List Float → List Cell
-prevIn zero journal = replicate 17 nullCell
+prevIn zero journal = replicate 17 zeroCell
 prevIn (suc n) journal = receive.firstCells 17 (drop (n * PLACE) journal)
 
 -- the session with n standing, of one with more
@@ -113,11 +127,11 @@ unfoldable pub backTo : ℕ → Session → List Float → Session
 backTo n s journal = record { prev = prevIn n journal; bits = receive.heldBits n (s .bits); count = n }
 
 -- what a step back answers, with the session after it; it writes nothing
-abbrev pub steppedOf : Session → List Float → SteppedBack
-steppedOf s journal =
-    kept (stepNo (length journal) (standing s))
+abbrev pub stepBackAnswer : Session → List Float → SteppedBack
+stepBackAnswer s journal =
+    kept (stepBackNo s journal)
     (record { answer = step.Done; session = backTo (standing s - 1) s journal })
-    (record { answer = step.Refused (stepNo (length journal) (standing s)); session = s })
+    (record { answer = step.Refused (stepBackNo s journal); session = s })
 
 -- document 01's number, for each case of its answer
 abbrev pub stepNumber : StepBack → ℕ

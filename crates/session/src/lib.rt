@@ -5,15 +5,15 @@ use tps::TpsBit;
 use tps::TpsDecoder;
 use tps::Unpacked;
 ghost use mathlib.Core.Path.{_≡_};
-ghost use Prim.Native.Nat.{_≤_, _<_, min};
+ghost use Prim.Native.Nat.{_≤_, _<_};
 ghost use lib.ListN.{length};
 ghost use Rattle.carriers.specs.Mode.{mode2k};
-ghost use Rattle.grid.specs.Calls.{phaseOf, extractLeft};
-ghost use Rattle.session.specs.Session.{tpsCells, nextPhase, decoderOf, sessionOf, fresh, fedBy, fedRefused, inPlace, Feeds, prevIn, steppedOf, Words};
+ghost use Rattle.grid.specs.Calls.{phaseOf, extractLeaves};
+ghost use Rattle.session.specs.Session.{tpsCells, nextPhase, decoderOf, sessionOf, fresh, fedBy, fedRefused};
+ghost use Rattle.session.specs.Session.{inPlace, Feeds, prevIn, stepBackAnswer, Words};
 
-pub mod script;
-
-// What a session holds: the previous symbol's TPS cells, the bits, and how many symbols stand.
+// The session: the previous symbol's TPS cells, the bits, and how many symbols stand. A count above 68 is read as 68,
+// a held bit above 1 as 1, and a bit that doesn't stand as 0.
 #[repr(C)]
 pub struct Session {
     pub prev: [Cell; 17],
@@ -39,13 +39,6 @@ pub struct SteppedBack {
     pub session: Session,
 }
 
-// A count, where one above 68 is treated as 68.
-fn at_most_68(count: usize) -> usize
-    ensures { λ r. ⌜ r ≡ min 68 count ⌝ }
-{
-    if count < 68 { count } else { 68 }
-}
-
 // The 17 TPS cells of a symbol, in rising active order, re and im in turn.
 fn tps_cells(symbol: &[f32]) -> [f32; 34]
     requires { ⌜ 4096 ≤ length (now symbol) ⌝ }
@@ -57,25 +50,13 @@ fn tps_cells(symbol: &[f32]) -> [f32; 34]
     cells
 }
 
-// Copies numbers into a slice of the same length.
-fn copy(from: &[f32], to: &mut [f32])
-    requires { ⌜ length (now from) ≡ length (now to) ⌝ }
-    ensures { λ _. ⌜ now (to .exit) ≡ now (from .entry) ⌝ }
-{
-    let mut i = 0;
-    while i < to.len() {
-        to[i] = from[i];
-        i += 1;
-    }
-}
-
 // A symbol's TPS cells into place n of the journal.
 fn put_cells(cells: [f32; 34], n: usize, journal: &mut [f32])
     requires { ⌜ (n < 68) × (2312 ≤ length (now journal)) ⌝ }
     ensures { λ _. ⌜ now (journal .exit) ≡ inPlace n cells (now (journal .entry)) ⌝ }
 {
     let from = n * 34;
-    copy(&cells, &mut journal[from..from + 34]);
+    ground::inner::copy_cells(&cells, &mut journal[from..from + 34]);
 }
 
 // The previous cells with n symbols standing, out of the journal.
@@ -92,7 +73,7 @@ fn cells_before(n: usize, journal: &[f32]) -> [Cell; 17]
 
 // The data cells of the symbol that is fed with n standing, as the extractor reads them.
 fn extract(n: usize, symbol: &[f32], out: &mut [f32])
-    ensures { λ _. ⌜ now (out .exit) ≡ extractLeft mode2k (phaseOf n) (now (symbol .entry)) (now (out .entry)) ⌝ }
+    ensures { λ _. ⌜ now (out .exit) ≡ extractLeaves mode2k (phaseOf n) (now (symbol .entry)) (now (out .entry)) ⌝ }
 {
     let extractor = ScatteredPilotExtractor { phase: n };
     extractor.extract_symbol(symbol, out);
@@ -131,7 +112,7 @@ impl Session {
     fn decoder(self) -> TpsDecoder
         ensures { λ r. ⌜ r ≡ decoderOf self ⌝ }
     {
-        let count = at_most_68(self.count);
+        let count = tps::inner::standing_count(self.count);
         let prev = self.prev;
         let bits = self.bits;
         let held = tps::inner::held_bits(bits, count);
@@ -146,7 +127,7 @@ impl Session {
     pub fn phase(self) -> usize
         ensures { λ r. ⌜ r ≡ nextPhase self ⌝ }
     {
-        at_most_68(self.count) % 4
+        tps::inner::standing_count(self.count) % 4
     }
 
     // The answer to a symbol's TPS cells, with the session after it.
@@ -172,7 +153,8 @@ impl Session {
 
     // One symbol of 2,048 cells: its data cells to the lent output, its TPS cells to the journal, and its TPS bit.
     pub fn feed(self, symbol: &[f32], out: &mut [f32], journal: &mut [f32]) -> Fed
-        ensures { λ r. ⌜ Feeds self (now (symbol .entry)) (now (out .entry)) (now (journal .entry)) r (now (out .exit)) (now (journal .exit)) ⌝ }
+        ensures { λ r. ⌜ Feeds self (now (symbol .entry)) (now (out .entry)) (now (journal .entry)) r
+            (now (out .exit)) (now (journal .exit)) ⌝ }
     {
         if symbol.len() < 4096 {
             return self.refused(ground::LENGTH);
@@ -195,7 +177,7 @@ impl Session {
 
     // The latest standing symbol is taken back: the session with the one before it as the latest.
     pub fn step_back(self, journal: &[f32]) -> SteppedBack
-        ensures { λ r. ⌜ r ≡ steppedOf self (now (journal .entry)) ⌝ }
+        ensures { λ r. ⌜ r ≡ stepBackAnswer self (now (journal .entry)) ⌝ }
     {
         if journal.len() < 2312 {
             return SteppedBack {
@@ -203,7 +185,7 @@ impl Session {
                 session: self,
             };
         }
-        let count = at_most_68(self.count);
+        let count = tps::inner::standing_count(self.count);
         if count == 0 {
             return SteppedBack {
                 answer: StepBack::Refused(ground::EMPTY),

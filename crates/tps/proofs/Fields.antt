@@ -1,4 +1,5 @@
--- A table of fields: its bits are bits, as many as its widths say, and their number is that of the fields behind one another. Assumes nothing.
+-- A table of fields: its bits are bits, as many as its widths say, and their number is that of the fields behind one
+-- another. Assumes nothing.
 use mathlib.Core.Path.{_≡_, refl, sym, ap, _∙_, subst}
 use mathlib.Core.List.{List, [], _∷_, _++_}
 use Prim.Native.Nat.{ℕ, zero, suc, _+_, _-_, _*_, _/_, _%_, _^_, _<_, _≤_}
@@ -11,8 +12,11 @@ use Rattle.ground.specs.Bits.{Bits}
 use Rattle.ground.specs.Digits.{digitsOf, valueOf}
 use Rattle.ground.proofs.Bits.{bits-append, bits-take, bits-drop}
 use Rattle.ground.proofs.Digits.{digits-bits, number-below}
-use Rattle.tps.specs.declared.TpsWord.{TpsWord}
-use Rattle.tps.specs.Word.{Field, bitsOf, constellationCode, rateCode, guardCode, syncOf, fieldsOf, informationOf}
+use Rattle.tps.specs.declared.word.TpsWord.{TpsWord}
+use Rattle.tps.specs.declared.inner.Codes.{Codes}
+use Rattle.tps.specs.Codes.{codesOf}
+use Rattle.tps.specs.Word.{Field, bitsOf, syncOf, fieldsOf, informationOf}
+use Rattle.tps.proofs.Codes.{constellation-small, rate-small, guard-small}
 
 -- ---- the number of a table's bits
 
@@ -36,17 +40,17 @@ value-digits (suc n) s v =
     value-digits n (s * 2 + d) v ∙ omega arith
 
 -- the number of a part of bits
-part-below : (s : List ℕ) (from n : ℕ) → Bits s → from + n ≤ length s → valueOf 0 (take n (drop from s)) < 2 ^ n
+pub part-below : (s : List ℕ) (from n : ℕ) → Bits s → from + n ≤ length s → valueOf 0 (take n (drop from s)) < 2 ^ n
 part-below s from n h l =
     subst (λ (k : ℕ). valueOf 0 (take n (drop from s)) < 2 ^ k)
     (length-take-le n (drop from s) (omega (arith, length-drop from s)))
     (number-below (take n (drop from s)) (bits-take n (drop from s) (bits-drop from s h)))
 
 pub field-below : (s : List ℕ) (from to v : ℕ) → Bits s → length s ≡ 53 → from ≤ to → to ≤ 53 → to - from ≤ 8
-    → v ≡ valueOf 0 (take (to - from) (drop from s)) → (v < 2 ^ (to - from)) × (v < 256)
+    → v ≡ valueOf 0 (take (to - from) (drop from s)) → v < 256
 field-below s from to v h l f t n e =
     let b : v < 2 ^ (to - from) = subst (λ (x : ℕ). x < 2 ^ (to - from)) (sym e) (part-below s from (to - from) h (omega arith)) in
-    (b, lt-of-lt-of-le {n = v} {m = 2 ^ (to - from)} {k = 256} b (pow-le-pow-right {n = 2} (omega arith) {i = to - from} {j = 8} n))
+    lt-of-lt-of-le {n = v} {m = 2 ^ (to - from)} {k = 256} b (pow-le-pow-right {n = 2} (omega arith) {i = to - from} {j = 8} n)
 
 -- each field's number has room in its width
 abbrev pub Fit : List Field → Type 0
@@ -65,12 +69,18 @@ fields-value s (f ∷ fs) h =
     ∙ ap (λ (x : ℕ). valueOf x (bitsOf fs)) (value-digits (f .width) s (f .value) ∙ ap (λ (x : ℕ). s * 2 ^ f .width + x) (mod-eq-of-lt (h .0)))
     ∙ fields-value (s * 2 ^ f .width + f .value) fs (h .1)
 
--- the table's number, from the codes of its fields
-pub information-value : (w : TpsWord) (sync points rate guard v : ℕ) → w .«cell_id» < 256
-    → (sync ≡ syncOf (w .«frame_number»)) × (sync < 65536) → (points ≡ constellationCode (w .constellation)) × (points < 4)
-    → (rate ≡ rateCode (w .«code_rate_hp»)) × (rate < 8) → (guard ≡ guardCode (w .guard)) × (guard < 4)
-    → v ≡ ((((((sync * 64 + 31) * 4 + w .«frame_number» % 4) * 4 + points) * 512 + rate * 9) * 4 + guard) * 1024 + w .«cell_id») * 64
+-- ---- the number of a word's table
+
+-- the three codes have room in their fields
+abbrev Small : Codes → Type 0
+Small k = (k .constellation < 4) × (k .rate < 8) × (k .guard < 4)
+
+-- of the codes k of the word w
+pub information-value : (w : TpsWord) (k : Codes) (sync v : ℕ) → k ≡ codesOf w → k .cell < 256 → (sync ≡ syncOf (k .frame)) × (sync < 65536)
+    → v ≡ ((((((sync * 64 + 31) * 4 + k .frame % 4) * 4 + k .constellation) * 512 + k .rate * 9) * 4 + k .guard) * 1024 + k .cell) * 64
     → v ≡ valueOf 0 (informationOf w)
-information-value w sync points rate guard v hc hs hp hr hg e =
-    e ∙ omega arith
-    ∙ sym (fields-value 0 (fieldsOf w) (omega arith, (omega arith, (omega arith, (omega arith, (omega arith, (omega arith, (omega arith, (omega arith, (omega arith, (omega arith, (omega arith, tt))))))))))))
+information-value w k sync v e hc hs ev =
+    let small : Small k = subst Small (sym e) (constellation-small (w .constellation), rate-small (w .«code_rate_hp»), guard-small (w .guard)) in
+    ev ∙ omega arith
+    ∙ sym (fields-value 0 (fieldsOf k) (omega arith, (omega arith, (omega arith, (omega arith, (omega arith, (omega arith, (omega arith, (omega arith, (omega arith, (omega arith, (omega arith, tt))))))))))))
+    ∙ ap (λ (x : Codes). valueOf 0 (bitsOf (fieldsOf x))) e

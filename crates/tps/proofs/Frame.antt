@@ -1,52 +1,42 @@
--- What the sender sends, the receiver reads back, for every 68 bits: s0 reads 0. Assumes nothing.
-use mathlib.Core.Path.{_≡_, refl, sym, ap, ap₂, _∙_, subst}
-use mathlib.Core.List.{List, [], _∷_, map}
+-- What the sender sends, the receiver reads back, for every 68 bits: s0 reads 0. A frame exists for every list of
+-- bits, and one for every word, so that this is said of each. Assumes nothing.
+use mathlib.Core.Path.{_≡_, refl, sym, ap, _∙_, subst}
+use mathlib.Core.List.{List, [], _∷_, _++_, map, reverse, reverse-cons, reverse-reverse}
 use Prim.Native.Nat.{ℕ, _<_, _≤_, min}
 use native.Mathlib.Omega.{arith}
-use lib.Dec.{ltb}
-use lib.ListN.{length, drop}
+use lib.Ieee.{Float}
+use lib.ListN.{length, drop, replicate, length-reverse}
 use lib.Seq.{take-all}
-use borrow.Author.Tests.{le-ltb}
-use Rattle.ground.specs.Refusal.{ACCEPTED, INCOMPLETE}
-use Rattle.ground.specs.Answer.{pick}
 use Rattle.ground.specs.Bits.{Bits}
-use Rattle.bch.specs.Code.{distance}
-use Rattle.bch.proofs.Mending.{places-self}
-use Rattle.tps.specs.declared.TpsEncoder.{TpsEncoder}
-use Rattle.tps.specs.declared.TpsDecoder.{TpsDecoder}
-use Rattle.tps.specs.declared.TpsWord.{TpsWord}
-use Rattle.tps.specs.declared.Unpacked.{Unpacked}
-use Rattle.tps.specs.declared.Unpacked.the-variants.{Word}
-use Rattle.tps.specs.Word.{wordBits, modulo4}
-use Rattle.tps.specs.Promise.{Unpacks}
-use Rattle.tps.specs.Receive.{WordsBy, Words}
-use Rattle.tps.specs.Frame.{Frame, readBits}
+use Rattle.ground.specs.Cells.{plusZero}
+use Rattle.ground.proofs.Bits.{bits-append}
+use Rattle.bch.specs.Code.{distance, encode}
+use Rattle.bch.proofs.Places.{places-self}
+use Rattle.tps.specs.declared.sender.TpsEncoder.{TpsEncoder}
+use Rattle.tps.specs.declared.receiver.TpsDecoder.{TpsDecoder}
+use Rattle.tps.specs.declared.word.TpsWord.{TpsWord}
+use Rattle.tps.specs.declared.word.Unpacked.{Unpacked}
+use Rattle.tps.specs.declared.word.Unpacked.the-variants.{Word}
+use Rattle.tps.specs.Word.{informationOf, wordBits, modulo4}
+use Rattle.tps.specs.Packing.{Unpacks}
+use Rattle.tps.specs.Send.{freshEncoder, sendAnswer, sendLeaves}
+use Rattle.tps.specs.Receive.{freshDecoder, feedAnswer, Words}
+use Rattle.tps.specs.Frame.{Symbol, Frame, readBits}
+use Rattle.tps.specs.Frame.Frame.{start, next}
 use Rattle.tps.proofs.Packing.{word-length, word-bits}
-use Rattle.tps.proofs.Determined.{unpack-packed}
-use Rattle.tps.proofs.Symbols.{frame-held}
+use Rattle.tps.proofs.RoundTrip.{unpack-packed}
+use Rattle.tps.proofs.StandingBits.{bits-held, word-unpacked}
+use Rattle.tps.proofs.Symbols.{frame-holds}
 
--- what the sender sends, the receiver reads back, for every 68 bits: s0 reads 0
+-- ---- a frame is read back
+
 pub frame-read : (bs : List ℕ) (e : TpsEncoder) (d : TpsDecoder) → Frame bs e d → length bs ≡ 68 → (d .count ≡ 68) × (d .bits ≡ readBits bs)
 frame-read bs e d f l =
-    let h = frame-held f (omega arith) in
+    let h = frame-holds f (omega arith) in
     (h .count ∙ l, sym (take-all (length bs) (d .bits) (omega (arith, h .size))) ∙ h .read)
-
--- ---- a word
-
-min-bit : (b : ℕ) → b < 2 → min 1 b ≡ b
-min-bit b h = omega arith
-
-held-bits : (bs : List ℕ) → Bits bs → map (min 1) bs ≡ bs
-held-bits [] h = refl
-held-bits (b ∷ bs) h = ap₂ (λ (x : ℕ) (l : List ℕ). x ∷ l) (min-bit b (h .0)) (held-bits bs (h .1))
 
 few : 0 ≤ 2
 few = omega arith
-
-word-by : (d : TpsDecoder) (r : Unpacked) → d .count ≡ 68 → Words d r → Unpacks (map (min 1) (d .bits)) r
-word-by d r e h =
-    let n : pick (ltb (d .count) 68) INCOMPLETE ACCEPTED ≡ 0 = simp (le-ltb (d .count) 68 (omega (arith, e))) refl in
-    subst (λ (k : ℕ). WordsBy k d r) n h
 
 -- a word whose bits were sent and fed comes back from the receiver, its frame number modulo 4
 pub word-read : (w : TpsWord) (bs : List ℕ) (e : TpsEncoder) (d : TpsDecoder) (r : Unpacked) → w .«cell_id» < 256
@@ -54,6 +44,66 @@ pub word-read : (w : TpsWord) (bs : List ℕ) (e : TpsEncoder) (d : TpsDecoder) 
 word-read w bs e d r h f l s k =
     let t = frame-read bs e d f l in
     let b : Bits (wordBits w) = word-bits w in
-    let g : map (min 1) (d .bits) ≡ wordBits w = ap (map (min 1)) (t .1 ∙ s) ∙ held-bits (wordBits w) b in
+    let g : map (min 1) (d .bits) ≡ wordBits w = ap (map (min 1)) (t .1 ∙ s) ∙ bits-held (wordBits w) b in
     let z : distance (drop 1 (wordBits w)) (drop 1 (wordBits w)) ≡ 0 = ap length (places-self 0 (drop 1 (wordBits w))) in
-    unpack-packed w h (wordBits w) b (word-length w) r (subst (λ (n : ℕ). n ≤ 2) (sym z) few) (subst (λ (x : List ℕ). Unpacks x r) g (word-by d r (t .0) k))
+    let u : Unpacks (map (min 1) (d .bits)) r = word-unpacked d (t .0) r k in
+    unpack-packed w h (wordBits w) b (word-length w) r (subst (λ (n : ℕ). n ≤ 2) (sym z) few) (subst (λ (x : List ℕ). Unpacks x r) g u)
+
+-- ---- frames exist
+
+-- room for 17 cells
+abbrev room : List Float
+room = replicate 34 plusZero
+
+symbol-exists : (bit : ℕ) → bit < 2 → (e : TpsEncoder) (d : TpsDecoder)
+    → Symbol bit e d (sendAnswer e bit room .encoder) (feedAnswer d (sendLeaves e bit room) .decoder)
+symbol-exists bit h e d =
+    record {
+      out = room;
+      left = sendLeaves e bit room;
+      sent = sendAnswer e bit room;
+      fed = feedAnswer d (sendLeaves e bit room);
+      isBit = h;
+      room = omega arith;
+      sends = refl;
+      leaves = refl;
+      feeds = refl;
+      sender = refl;
+      receiver = refl;
+    }
+
+-- every list of bits, newest first, can be sent and fed
+pub frame-exists : (bs : List ℕ) → Bits bs → (e : TpsEncoder) × (d : TpsDecoder) × Frame bs e d
+frame-exists [] h = (freshEncoder, freshDecoder, start refl refl)
+frame-exists (b ∷ bs) h =
+    let f = frame-exists bs (h .1) in (
+      sendAnswer (f .0) b room .encoder,
+      feedAnswer (f .1) (sendLeaves (f .0) b room) .decoder,
+      next b (f .2) (symbol-exists b (h .0) (f .0) (f .1)),
+    )
+
+-- bits that were sent oldest first are read as they are, behind s0
+read-reversed : (xs : List ℕ) (b : ℕ) → readBits (xs ++ (b ∷ [])) ≡ 0 ∷ reverse xs
+unfolding readBits
+read-reversed [] b = refl
+read-reversed (x ∷ []) b = refl
+read-reversed (x ∷ y ∷ xs) b =
+    ap (λ (l : List ℕ). l ++ (x ∷ [])) (read-reversed (y ∷ xs) b) ∙ ap (λ (l : List ℕ). 0 ∷ l) (sym (reverse-cons x (y ∷ xs)))
+
+reverse-bits : (l : List ℕ) → Bits l → Bits (reverse l)
+reverse-bits [] h = tt
+reverse-bits (x ∷ l) h = subst Bits (sym (reverse-cons x l)) (bits-append (reverse l) (x ∷ []) (reverse-bits l (h .1)) (h .0, tt))
+
+-- every word can be sent and fed
+pub word-sent : (w : TpsWord) → (bs : List ℕ) × (e : TpsEncoder) × (d : TpsDecoder) × Frame bs e d × (length bs ≡ 68) × (readBits bs ≡ wordBits w)
+word-sent w =
+    let bs = reverse (wordBits w) in
+    let code = encode (informationOf w) in
+    let f = frame-exists bs (reverse-bits (wordBits w) (word-bits w)) in (
+      bs,
+      f .0,
+      f .1,
+      f .2,
+      length-reverse (wordBits w) ∙ word-length w,
+      ap readBits (reverse-cons 0 code) ∙ read-reversed (reverse code) 0 ∙ ap (λ (l : List ℕ). 0 ∷ l) (reverse-reverse code),
+    )

@@ -1,4 +1,5 @@
--- What packing writes: s0, the information and the parity, each behind the other from the output's front. Assumes nothing.
+-- What packing writes: s0, the information and the parity, each behind the other from the output's front. Assumes
+-- nothing.
 use mathlib.Core.Path.{_≡_, refl, sym, ap, ap₂, _∙_}
 use mathlib.Core.List.{List}
 use Prim.Native.Nat.{ℕ, suc, _^_, _<_, _≤_}
@@ -6,21 +7,20 @@ use native.Mathlib.Omega.{arith}
 use lib.ListN.{length, take, drop, set, length-set, length-drop}
 use lib.Seq.{take-at, drop-at, take-all, length-take-le}
 use borrow.Rule.Slice.PartMut.{putMid}
-use borrow.Author.Tests.{lt-ltb, le-ltb}
-use Rattle.ground.specs.Refusal.{ACCEPTED, OUTPUT-SHORT}
-use Rattle.ground.specs.Answer.{counted, kept, written}
-use Rattle.ground.specs.declared.Counted.the-variants.{Count, Refused}
+use Rattle.ground.specs.declared.Counted.the-variants.{Count}
 use Rattle.ground.specs.Bits.{Bits}
 use Rattle.ground.specs.Digits.{digitsOf, valueOf}
+use Rattle.ground.proofs.Answers.{fill-accepted}
 use Rattle.ground.proofs.Front.{front, front-next, front-part, front-length, front-whole}
 use Rattle.ground.proofs.Bits.{bits-append}
 use Rattle.ground.proofs.Digits.{digits-bits, digits-length}
 use Rattle.bch.specs.Code.{parity}
-use Rattle.bch.proofs.Encoding.{encode-length}
-use Rattle.bch.proofs.Packing.{information-digits}
-use Rattle.tps.specs.declared.TpsWord.{TpsWord}
+use Rattle.bch.proofs.Codeword.{encode-length}
+use Rattle.bch.proofs.Parity.{information-digits}
+use Rattle.tps.specs.declared.word.TpsWord.{TpsWord}
+use Rattle.tps.specs.Codes.{codesOf}
 use Rattle.tps.specs.Word.{fieldsOf, informationOf, wordBits}
-use Rattle.tps.specs.Promise.{packNo, packAnswer, packLeaves}
+use Rattle.tps.specs.Packing.{packAnswer, packLeaves}
 use Rattle.tps.proofs.Fields.{fields-bits}
 
 pub information-length : (w : TpsWord) → length (informationOf w) ≡ 53
@@ -31,34 +31,18 @@ word-length w = ap suc (encode-length (informationOf w) (information-length w))
 
 pub word-bits : (w : TpsWord) → Bits (wordBits w)
 word-bits w =
-    (omega arith, bits-append (informationOf w) (digitsOf 14 (parity (informationOf w))) (fields-bits (fieldsOf w)) (digits-bits 14 (parity (informationOf w))))
+    (omega arith, bits-append (informationOf w) (digitsOf 14 (parity (informationOf w))) (fields-bits (fieldsOf (codesOf w))) (digits-bits 14 (parity (informationOf w))))
 
--- ---- the number of a call
-
-pub no-room : (o : List ℕ) → length o < 68 → packNo o ≡ OUTPUT-SHORT
-no-room o h = simp (lt-ltb (length o) 68 h) refl
-
-pub accepted : (o : List ℕ) → 68 ≤ length o → packNo o ≡ ACCEPTED
-accepted o h = simp (le-ltb (length o) 68 h) refl
-
-module _ (w : TpsWord) (o : List ℕ) where
-  pub pack-refused : length o < 68 → (Refused OUTPUT-SHORT ≡ packAnswer o) × (o ≡ packLeaves w o)
-  pack-refused h = (
-    sym (ap (λ (n : ℕ). counted n 68) (no-room o h)),
-    sym (ap (λ (n : ℕ). kept n (written (wordBits w) o) o) (no-room o h)),
-  )
-
-  -- the first 68 of what is left in an output with room are the word's bits
-  pub pack-writes : 68 ≤ length o → take 68 (packLeaves w o) ≡ wordBits w
-  pack-writes h =
-      ap (λ (n : ℕ). take 68 (kept n (written (wordBits w) o) o)) (accepted o h)
-      ∙ take-at (wordBits w) (drop (length (wordBits w)) o) 68 (word-length w)
+-- the first 68 of what is left in an output with room are the word's bits
+pub pack-writes : (w : TpsWord) (o : List ℕ) → 68 ≤ length o → take 68 (packLeaves w o) ≡ wordBits w
+pack-writes w o h =
+    ap (take 68) (sym (fill-accepted 68 (wordBits w) o h .1)) ∙ take-at (wordBits w) (drop (length (wordBits w)) o) 68 (word-length w)
 
 -- ---- what is written
 
 module _ (w : TpsWord) (o : List ℕ) (room : 68 ≤ length o) (v : ℕ) (hv : v ≡ valueOf 0 (informationOf w)) where
   packed : (v < 2 ^ 53) × (digitsOf 53 v ≡ informationOf w)
-  packed = information-digits (informationOf w) v (fields-bits (fieldsOf w)) (information-length w) hv
+  packed = information-digits (informationOf w) v (fields-bits (fieldsOf (codesOf w))) (information-length w) hv
 
   pub information-small : v < 2 ^ 53
   information-small = packed .0
@@ -101,8 +85,6 @@ module _ (w : TpsWord) (o : List ℕ) (room : 68 ≤ length o) (v : ℕ) (hv : v
       all-room = ap length all-written ∙ front-length (wordBits w) o 68 (omega (arith, word-length w)) (omega arith)
 
       pub pack-accepted : (Count 68 ≡ packAnswer o) × (putMid 54 14 (putMid 1 53 (set o 0 0) d) q ≡ packLeaves w o)
-      pack-accepted = (
-        sym (ap (λ (n : ℕ). counted n 68) (accepted o room)),
-        front-whole (wordBits w) o (putMid 54 14 (putMid 1 53 (set o 0 0) d) q) 68 (sym (word-length w)) all-written
-            ∙ sym (ap (λ (n : ℕ). kept n (written (wordBits w) o) o) (accepted o room)),
-      )
+      pack-accepted =
+          let r = fill-accepted 68 (wordBits w) o room in
+          (r .0, front-whole (wordBits w) o (putMid 54 14 (putMid 1 53 (set o 0 0) d) q) 68 (sym (word-length w)) all-written ∙ r .1)

@@ -9,16 +9,16 @@ use borrow.Author.Tests.{lt-ltb, le-ltb}
 use Rattle.ground.specs.Refusal.{ACCEPTED, NOT-A-BIT, OUTPUT-SHORT}
 use Rattle.ground.specs.Answer.{written}
 use Rattle.ground.specs.declared.Counted.the-variants.{Count, Refused}
-use Rattle.carriers.specs.Cells.{flat}
-use Rattle.tps.specs.declared.TpsEncoder.{TpsEncoder}
-use Rattle.tps.specs.Send.{signCell, signsOf, sendNo, sentOf, sentLeaves}
+use Rattle.ground.specs.Cells.{flat}
+use Rattle.tps.specs.declared.sender.TpsEncoder.{TpsEncoder}
+use Rattle.tps.specs.Send.{signCell, signsOf, sendNo, sendAnswer, sendLeaves}
 
 module _ (e : TpsEncoder) (bit : ℕ) (o : List Float) where
-  pub send-not-bit : 1 < bit → (record { answer = Refused NOT-A-BIT; encoder = e } ≡ sentOf e bit o) × (o ≡ sentLeaves e bit o)
+  pub send-not-bit : 1 < bit → (record { answer = Refused NOT-A-BIT; encoder = e } ≡ sendAnswer e bit o) × (o ≡ sendLeaves e bit o)
   send-not-bit h = (simp (lt-ltb 1 bit h) refl, simp (lt-ltb 1 bit h) refl)
 
   module _ (h : bit ≤ 1) where
-    pub send-short : length o < 34 → (record { answer = Refused OUTPUT-SHORT; encoder = e } ≡ sentOf e bit o) × (o ≡ sentLeaves e bit o)
+    pub send-short : length o < 34 → (record { answer = Refused OUTPUT-SHORT; encoder = e } ≡ sendAnswer e bit o) × (o ≡ sendLeaves e bit o)
     send-short l = (simp (le-ltb 1 bit h, lt-ltb (length o) 34 l) refl, simp (le-ltb 1 bit h, lt-ltb (length o) 34 l) refl)
 
     module _ (l : 34 ≤ length o) where
@@ -26,5 +26,5 @@ module _ (e : TpsEncoder) (bit : ℕ) (o : List Float) where
       send-accepted = simp (le-ltb 1 bit h, le-ltb (length o) 34 l) refl
 
       pub send-written : (signs : List Float) → signs ≡ signsOf e bit → (a : List Float) → a ≡ written (flat (map signCell signs)) o
-          → (record { answer = Count 17; encoder = record { signs = signs; started = true } } ≡ sentOf e bit o) × (a ≡ sentLeaves e bit o)
+          → (record { answer = Count 17; encoder = record { signs = signs; started = true } } ≡ sendAnswer e bit o) × (a ≡ sendLeaves e bit o)
       send-written signs es a ea = (simp (es, send-accepted) refl, simp (ea, es, send-accepted) refl)

@@ -10,20 +10,21 @@ use lib.ListN.{length, drop, set, length-append, length-map}
 use borrow.Author.Tests.{eq-eqb, ne-eqb}
 use Rattle.ground.specs.Answer.{kept, written}
 use Rattle.ground.specs.declared.Cell.{Cell}
-use Rattle.carriers.specs.Cells.{flat}
-use Rattle.carriers.proofs.Cells.{flat-length}
-use Rattle.tps.specs.declared.TpsEncoder.{TpsEncoder}
-use Rattle.tps.specs.declared.Sent.{Sent}
-use Rattle.tps.specs.declared.TpsDecoder.{TpsDecoder}
-use Rattle.tps.specs.declared.Fed.{Fed}
+use Rattle.ground.specs.Cells.{flat}
+use Rattle.ground.proofs.Cells.{flat-length}
+use Rattle.tps.specs.declared.sender.TpsEncoder.{TpsEncoder}
+use Rattle.tps.specs.declared.sender.Sent.{Sent}
+use Rattle.tps.specs.declared.receiver.TpsDecoder.{TpsDecoder}
+use Rattle.tps.specs.declared.receiver.Fed.{Fed}
 use Rattle.tps.specs.Send.{startSigns, signCell, freshEncoder, signsOf}
 use Rattle.tps.specs.Receive.{firstCells, bitOf}
 use Rattle.tps.specs.Frame.{Symbol, Frame, readBits}
 use Rattle.tps.specs.Frame.Frame.{start, next}
 use Rattle.tps.proofs.Sending.{send-accepted}
-use Rattle.tps.proofs.Received.{cells-back, feed-accepted}
-use Rattle.tps.proofs.Heard.{Signs, heard, signs-length, turn, Hears, hears}
-use Rattle.tps.proofs.Standing.{Held, held-start, sender, receiver, held-next}
+use Rattle.tps.proofs.FirstCells.{cells-back}
+use Rattle.tps.proofs.Receiving.{feed-accepted}
+use Rattle.tps.proofs.SignRows.{start-signs, Signs, signs-length, bitOfRows, turnedRow, bit-of-rows}
+use Rattle.tps.proofs.FrameState.{FrameHolds, holds-at-start, sender, receiver, holds-next}
 
 -- ---- one symbol, sent and fed
 
@@ -72,41 +73,41 @@ module _ (bit : ℕ) (e e′ : TpsEncoder) (d d′ : TpsDecoder) (y : Symbol bit
 first-signs : (e : TpsEncoder) (bit : ℕ) → e .started ≡ false → signsOf e bit ≡ startSigns
 first-signs e bit h = rw h refl
 
-later-signs : (e : TpsEncoder) (bit : ℕ) → e .started ≡ true → signsOf e bit ≡ turn (e .signs) bit
+later-signs : (e : TpsEncoder) (bit : ℕ) → e .started ≡ true → signsOf e bit ≡ turnedRow (e .signs) bit
 later-signs e bit h = rw h refl
 
 first-bit : (n : ℕ) (c p : List Cell) → n ≡ 0 → bitOf n c p ≡ 0
 unfolding bitOf
 first-bit n c p h = simp (eq-eqb n 0 h) refl
 
-later-bit : (n : ℕ) (s p : List Float) (c : List Cell) (bit : ℕ) → (n ≡ 0 → ⊥) → c ≡ map signCell p → heard s p ≡ bit → bitOf n (map signCell s) c ≡ bit
+later-bit : (n : ℕ) (s p : List Float) (c : List Cell) (bit : ℕ) → (n ≡ 0 → ⊥) → c ≡ map signCell p → bitOfRows s p ≡ bit → bitOf n (map signCell s) c ≡ bit
 unfolding bitOf
 later-bit n s p c bit h ec e = simp (ne-eqb n 0 h, ec) e
 
-one-symbol : (bs : List ℕ) (bit : ℕ) (e e′ : TpsEncoder) (d d′ : TpsDecoder) → length bs < 68 → Held bs e d → Symbol bit e d e′ d′ → Held (bit ∷ bs) e′ d′
-unfolding readBits Hears
+one-symbol : (bs : List ℕ) (bit : ℕ) (e e′ : TpsEncoder) (d d′ : TpsDecoder) → length bs < 68 → FrameHolds bs e d → Symbol bit e d e′ d′ → FrameHolds (bit ∷ bs) e′ d′
+unfolding readBits
 one-symbol [] bit e e′ d d′ l h y =
     let f = first-signs e bit (h .started) in
-    let k : Signs (signsOf e bit) = inl f in
+    let k : Signs (signsOf e bit) = inl (f ∙ start-signs) in
     let r = fed-receiver bit e e′ d d′ y (signs-length (signsOf e bit) k) (omega (arith, h .count)) 0
     (first-bit (d .count) (map signCell (signsOf e bit)) (d .prev) (h .count)) in
-    subst (λ (x : TpsEncoder). Held (bit ∷ []) x d′) (sym (sent-sender bit e e′ d d′ y))
-    (subst (λ (x : TpsDecoder). Held (bit ∷ []) (sender (signsOf e bit)) x) (sym r)
-    (held-next [] e d bit 0 (signsOf e bit) h l k refl))
+    subst (λ (x : TpsEncoder). FrameHolds (bit ∷ []) x d′) (sym (sent-sender bit e e′ d d′ y))
+    (subst (λ (x : TpsDecoder). FrameHolds (bit ∷ []) (sender (signsOf e bit)) x) (sym r)
+    (holds-next [] e d bit 0 (signsOf e bit) h l k refl))
 one-symbol (c ∷ bs) bit e e′ d d′ l h y =
     let f = later-signs e bit (h .started) in
-    let t = hears (e .signs) bit (y .isBit) (h .signs) in
-    let k : Signs (signsOf e bit) = subst (λ (s : List Float). Signs s) (sym f) (t .0) in
-    let g : heard (signsOf e bit) (e .signs) ≡ bit = ap (λ (s : List Float). heard s (e .signs)) f ∙ t .1 in
+    let t = bit-of-rows (e .signs) bit (y .isBit) (h .signs) in
+    let k : Signs (signsOf e bit) = subst Signs (sym f) (t .0) in
+    let g : bitOfRows (signsOf e bit) (e .signs) ≡ bit = ap (λ (s : List Float). bitOfRows s (e .signs)) f ∙ t .1 in
     let r = fed-receiver bit e e′ d d′ y (signs-length (signsOf e bit) k) (omega (arith, h .count)) bit
     (later-bit (d .count) (signsOf e bit) (e .signs) (d .prev) bit (λ z. absurd (omega (arith, h .count, z))) (h .previous) g) in
-    subst (λ (x : TpsEncoder). Held (bit ∷ c ∷ bs) x d′) (sym (sent-sender bit e e′ d d′ y))
-    (subst (λ (x : TpsDecoder). Held (bit ∷ c ∷ bs) (sender (signsOf e bit)) x) (sym r)
-    (held-next (c ∷ bs) e d bit bit (signsOf e bit) h l k refl))
+    subst (λ (x : TpsEncoder). FrameHolds (bit ∷ c ∷ bs) x d′) (sym (sent-sender bit e e′ d d′ y))
+    (subst (λ (x : TpsDecoder). FrameHolds (bit ∷ c ∷ bs) (sender (signsOf e bit)) x) (sym r)
+    (holds-next (c ∷ bs) e d bit bit (signsOf e bit) h l k refl))
 
 -- ---- a frame
 
-pub frame-held : {bs : List ℕ} {e : TpsEncoder} {d : TpsDecoder} → Frame bs e d → length bs ≤ 68 → Held bs e d
-frame-held (start {e} {d} ee ed) l =
-    subst (λ (x : TpsEncoder). Held [] x d) (sym ee) (subst (λ (x : TpsDecoder). Held [] freshEncoder x) (sym ed) held-start)
-frame-held (next {bs} {e} {d} bit {e′} {d′} f y) l = one-symbol bs bit e e′ d d′ l (frame-held f (omega arith)) y
+pub frame-holds : {bs : List ℕ} {e : TpsEncoder} {d : TpsDecoder} → Frame bs e d → length bs ≤ 68 → FrameHolds bs e d
+frame-holds (start {e} {d} ee ed) l =
+    subst (λ (x : TpsEncoder). FrameHolds [] x d) (sym ee) (subst (λ (x : TpsDecoder). FrameHolds [] freshEncoder x) (sym ed) holds-at-start)
+frame-holds (next {bs} {e} {d} bit {e′} {d′} f y) l = one-symbol bs bit e e′ d d′ l (frame-holds f (omega arith)) y

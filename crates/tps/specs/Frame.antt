@@ -4,12 +4,12 @@ use mathlib.Core.List.{List, [], _∷_, _++_}
 use Prim.Native.Nat.{ℕ, _<_, _≤_}
 use lib.Ieee.{Float}
 use lib.ListN.{length}
-use Rattle.tps.specs.declared.TpsEncoder.{TpsEncoder}
-use Rattle.tps.specs.declared.Sent.{Sent}
-use Rattle.tps.specs.declared.TpsDecoder.{TpsDecoder}
-use Rattle.tps.specs.declared.Fed.{Fed}
-use Rattle.tps.specs.Send.{freshEncoder, sentOf, sentLeaves}
-use Rattle.tps.specs.Receive.{freshDecoder, fedOf}
+use Rattle.tps.specs.declared.sender.TpsEncoder.{TpsEncoder}
+use Rattle.tps.specs.declared.sender.Sent.{Sent}
+use Rattle.tps.specs.declared.receiver.TpsDecoder.{TpsDecoder}
+use Rattle.tps.specs.declared.receiver.Fed.{Fed}
+use Rattle.tps.specs.Send.{freshEncoder, sendAnswer, sendLeaves}
+use Rattle.tps.specs.Receive.{freshDecoder, feedAnswer}
 
 -- one symbol: the bit is sent into an output with room for 17 cells, and what is left there is fed
 pub record Symbol (bit : ℕ) (e : TpsEncoder) (d : TpsDecoder) (e′ : TpsEncoder) (d′ : TpsDecoder) : Type 0 where
@@ -19,9 +19,9 @@ pub record Symbol (bit : ℕ) (e : TpsEncoder) (d : TpsDecoder) (e′ : TpsEncod
   pub fed : Fed
   pub isBit : bit < 2
   pub room : 34 ≤ length out
-  pub sends : sent ≡ sentOf e bit out
-  pub leaves : left ≡ sentLeaves e bit out
-  pub feeds : fed ≡ fedOf d left
+  pub sends : sent ≡ sendAnswer e bit out
+  pub leaves : left ≡ sendLeaves e bit out
+  pub feeds : fed ≡ feedAnswer d left
   pub sender : e′ ≡ sent .encoder
   pub receiver : d′ ≡ fed .decoder
 

@@ -1,10 +1,11 @@
--- Document 01, 'TPS', receiving: a receiver that is lent in parts, its previous symbol's cells as 34 floats, re and im in turn, its 68 bits and its count.
+-- Document 01, 'TPS', receiving: a receiver that is lent in parts, its previous symbol's cells as 34 floats, re and im
+-- in turn, its 68 bits and its count.
 use mathlib.Core.List.{List}
 use Prim.Native.Nat.{ℕ}
 use lib.Ieee.{Float}
-use Rattle.tps.specs.declared.TpsDecoder.{TpsDecoder}
-use Rattle.tps.specs.declared.TpsBit.{TpsBit}
-use Rattle.tps.specs.declared.Fed.{Fed}
+use Rattle.tps.specs.declared.receiver.TpsDecoder.{TpsDecoder}
+use Rattle.tps.specs.declared.receiver.TpsBit.{TpsBit}
+use Rattle.tps.specs.declared.receiver.Fed.{Fed}
 use Rattle.tps.specs.Receive.{firstCells}
 
 abbrev pub lentDecoder : List Float → List ℕ → ℕ → TpsDecoder

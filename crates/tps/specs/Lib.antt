@@ -1,7 +1,6 @@
+pub mod Codes
 pub mod Word
-pub mod Promise
-pub mod Reading
-pub mod Inner
+pub mod Packing
 pub mod Send
 pub mod Receive
 pub mod Frame

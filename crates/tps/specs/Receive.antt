@@ -1,23 +1,25 @@
--- Document 01, 'TPS', receiving; EN 300 744, 4.6.3: symbol 0 gives bit 0; later the bit is 1 when the sum over 17 carriers of re*prev.re - im*(-prev.im)
--- is below zero, summed in order from +0.0 in f32. A NaN sum gives 0. A 69th symbol is FULL.
+-- Document 01, 'TPS', receiving; EN 300 744, 4.6.3: symbol 0 gives bit 0; later the bit is 1 when the sum over 17
+-- carriers of re*prev.re - im*(-prev.im) is below zero, summed in order from +0.0 in f32. A NaN sum gives 0. A 69th
+-- symbol is FULL.
 use mathlib.Core.Path.{_≡_}
+use mathlib.Core.Bool.{cond}
 use mathlib.Core.List.{List, [], _∷_, _++_, map}
 use Prim.Native.Nat.{ℕ, zero, suc, _+_, _-_, min}
 use lib.Dec.{eqb, ltb, leb}
 use lib.Ieee.{Float, nan, binary32, add, sub, mul, neg, lt}
-use lib.ListN.{length, getD, take, drop, set, replicate}
-use Rattle.ground.specs.Refusal.{ACCEPTED, LENGTH, OUTPUT-SHORT, FULL, INCOMPLETE}
-use Rattle.ground.specs.Answer.{pick, counted, kept, written}
+use lib.ListN.{getD, take, drop, set, replicate}
+use Rattle.ground.specs.Refusal.{ACCEPTED, LENGTH, FULL, INCOMPLETE, _gives_, firstOf}
+use Rattle.ground.specs.Answer.{kept, short, fillNo, fillAnswer, fillLeaves}
 use Rattle.ground.specs.declared.Cell.{Cell}
 use Rattle.ground.specs.declared.Counted.{Counted}
-use Rattle.carriers.specs.Cells.{cellAt}
-use Rattle.carriers.specs.Pilots.{null}
-use Rattle.tps.specs.declared.TpsDecoder.{TpsDecoder}
-use Rattle.tps.specs.declared.TpsBit.{TpsBit}
-use Rattle.tps.specs.declared.TpsBit.the-variants.{Bit, Refused}
-use Rattle.tps.specs.declared.Fed.{Fed}
-use Rattle.tps.specs.declared.Unpacked.{Unpacked}
-use Rattle.tps.specs.Promise.{numberOf, Unpacks}
+use Rattle.ground.specs.Cells.{cellAt, plusZero, zeroCell}
+use Rattle.tps.specs.declared.receiver.TpsDecoder.{TpsDecoder}
+use Rattle.tps.specs.declared.receiver.TpsBit.{TpsBit}
+use Rattle.tps.specs.declared.receiver.TpsBit.the-variants.{Bit, Refused}
+use Rattle.tps.specs.declared.receiver.Fed.{Fed}
+use Rattle.tps.specs.declared.word.Unpacked.{Unpacked}
+use Rattle.tps.specs.declared.word.Unpacked.the-variants as unpacked
+use Rattle.tps.specs.Packing.{numberOf, Unpacks, unpackAnswer}
 
 -- the first n cells of a lent slice, re and im in turn
 unfoldable pub firstCells : ℕ → List Float → List Cell
@@ -34,19 +36,20 @@ product c p = sub binary32 (mul binary32 (c .re) (p .re)) (mul binary32 (c .im) 
 
 -- the sum over the first k carriers, in order from +0.0
 unfoldable pub correlation : ℕ → List Cell → List Cell → Float
-correlation zero cells prev = null
-correlation (suc k) cells prev = add binary32 (correlation k cells prev) (product (getD cells k noCell) (getD prev k noCell))
+correlation zero cells prev = plusZero
+correlation (suc k) cells prev =
+    add binary32 (correlation k cells prev) (product (getD cells k noCell) (getD prev k noCell))
 
 -- the bit of the symbol that is fed when n stand
 unfoldable pub bitOf : ℕ → List Cell → List Cell → ℕ
-bitOf n cells prev = pick (eqb n 0) 0 (pick (lt (correlation 17 cells prev) null) 1 0)
+bitOf n cells prev = cond (eqb n 0) 0 (cond (lt (correlation 17 cells prev) plusZero) 1 0)
 
 abbrev pub freshDecoder : TpsDecoder
-freshDecoder = record { prev = replicate 17 (record { re = null; im = null }); bits = replicate 68 0; count = 0 }
+freshDecoder = record { prev = replicate 17 zeroCell; bits = replicate 68 0; count = 0 }
 
 -- a count above 68 is treated as 68, so that it is FULL
 abbrev pub feedNo : TpsDecoder → List Float → ℕ
-feedNo d cells = pick (ltb (length cells) 34) LENGTH (pick (leb 68 (d .count)) FULL ACCEPTED)
+feedNo d cells = firstOf (short 34 cells gives LENGTH ∷ leb 68 (d .count) gives FULL ∷ [])
 
 -- document 01's number and the bit, for each case of an answer
 abbrev pub bitNumber : TpsBit → ℕ
@@ -66,8 +69,8 @@ abbrev pub fedBit : TpsDecoder → List Float → ℕ
 fedBit d cells = bitOf (d .count) (firstCells 17 cells) (d .prev)
 
 -- what feeding a symbol answers, with the receiver after it
-abbrev pub fedOf : TpsDecoder → List Float → Fed
-fedOf d cells =
+abbrev pub feedAnswer : TpsDecoder → List Float → Fed
+feedAnswer d cells =
     record {
       answer = bitAnswer (feedNo d cells) (fedBit d cells);
       decoder =
@@ -89,22 +92,30 @@ heldBits n bits = map (min 1) (take n bits) ++ replicate (68 - n) 0
 abbrev pub receivedBits : TpsDecoder → List ℕ
 receivedBits d = take (standing d) (map (min 1) (d .bits))
 
-abbrev pub receivedNo : TpsDecoder → List ℕ → ℕ
-receivedNo d out = pick (ltb (length out) (standing d)) OUTPUT-SHORT ACCEPTED
+abbrev pub bitsNo : TpsDecoder → List ℕ → ℕ
+bitsNo d out = fillNo (standing d) out
 
 -- what a call for the received bits answers, and what it leaves
-abbrev pub receivedAnswer : TpsDecoder → List ℕ → Counted
-receivedAnswer d out = counted (receivedNo d out) (standing d)
+abbrev pub bitsAnswer : TpsDecoder → List ℕ → Counted
+bitsAnswer d out = fillAnswer (standing d) out
 
-abbrev pub receivedLeaves : TpsDecoder → List ℕ → List ℕ
-receivedLeaves d out = kept (receivedNo d out) (written (receivedBits d) out) out
+abbrev pub bitsLeaves : TpsDecoder → List ℕ → List ℕ
+bitsLeaves d out = fillLeaves (standing d) (receivedBits d) out
 
 -- ---- the word
 
--- the answer to a call for the word: INCOMPLETE with fewer than 68, else that of unpacking the held bits, one above 1 treated as 1
+-- with fewer than 68 standing
+abbrev pub wordNo : TpsDecoder → ℕ
+wordNo d = firstOf (ltb (d .count) 68 gives INCOMPLETE ∷ [])
+
+-- the answer to a call for the word: that of unpacking the held bits, one above 1 treated as 1
 abbrev pub WordsBy : ℕ → TpsDecoder → Unpacked → Type 0
 WordsBy zero d answer = Unpacks (map (min 1) (d .bits)) answer
 WordsBy (suc k) d answer = numberOf answer ≡ suc k
 
 abbrev pub Words : TpsDecoder → Unpacked → Type 0
-Words d answer = WordsBy (pick (ltb (d .count) 68) INCOMPLETE ACCEPTED) d answer
+Words d answer = WordsBy (wordNo d) d answer
+
+-- the one answer that meets it
+unfoldable pub wordAnswer : TpsDecoder → Unpacked
+wordAnswer d = kept (wordNo d) (unpackAnswer (map (min 1) (d .bits))) (unpacked.Refused (wordNo d))

@@ -1,9 +1,168 @@
-// For the crates above: cells out of a slice and bits as they are held, for a caller that shows that they are there.
-use ground::Cell;
+// For the crates above: the codes of a word, cells out of a slice and bits as they are held.
 ghost use mathlib.Core.Path.{_≡_};
-ghost use Prim.Native.Nat.{_≤_};
+ghost use Prim.Native.Nat.{_≤_, min};
 ghost use lib.ListN.{length};
+ghost use Rattle.tps.specs.Codes.{constellationCode, constellationOf, rateCode, rateOf, guardCode, guardOf};
+ghost use Rattle.tps.specs.Codes.{codesOf, wordOf};
 ghost use Rattle.tps.specs.Receive.{firstCells, heldBits};
+use super::word::GuardInterval;
+use super::word::PunctureRate;
+use super::word::TpsWord;
+use super::word::Unpacked;
+use ground::Cell;
+use ground::ConstellationOrder;
+
+// The codes of a word's fields, and its frame number and cell id.
+pub struct Codes {
+    pub frame: u8,
+    pub constellation: u8,
+    pub rate: u8,
+    pub guard: u8,
+    pub cell: u8,
+}
+
+// What a constellation code says.
+enum ConstellationRead {
+    Known(ConstellationOrder),
+    Reserved,
+}
+
+// What a rate code says.
+enum RateRead {
+    Known(PunctureRate),
+    Reserved,
+}
+
+// What a guard code says.
+enum GuardRead {
+    Known(GuardInterval),
+    Reserved,
+}
+
+// ---- the codes of a word
+
+// The 2-bit code of a constellation (EN 300 744, 4.6.2.5).
+fn constellation_code(constellation: ConstellationOrder) -> u8
+    ensures { λ r. ⌜ r ≡ constellationCode constellation ⌝ }
+{
+    match constellation {
+        ConstellationOrder::Qpsk => 0,
+        ConstellationOrder::Qam16 => 1,
+        ConstellationOrder::Qam64 => 2,
+    }
+}
+
+// The constellation of a code; 3 is reserved.
+fn constellation_from_code(code: u8) -> ConstellationRead
+    ensures { λ r. ⌜ r ≡ constellationOf code ⌝ }
+{
+    match code {
+        0 => ConstellationRead::Known(ConstellationOrder::Qpsk),
+        1 => ConstellationRead::Known(ConstellationOrder::Qam16),
+        2 => ConstellationRead::Known(ConstellationOrder::Qam64),
+        _ => ConstellationRead::Reserved,
+    }
+}
+
+// The 3-bit code of a rate (EN 300 744, 4.6.2.7).
+fn rate_code(rate: PunctureRate) -> u8
+    ensures { λ r. ⌜ r ≡ rateCode rate ⌝ }
+{
+    match rate {
+        PunctureRate::R1_2 => 0,
+        PunctureRate::R2_3 => 1,
+        PunctureRate::R3_4 => 2,
+        PunctureRate::R5_6 => 3,
+        PunctureRate::R7_8 => 4,
+    }
+}
+
+// The rate of a code; 5, 6 and 7 are reserved.
+fn rate_from_code(code: u8) -> RateRead
+    ensures { λ r. ⌜ r ≡ rateOf code ⌝ }
+{
+    match code {
+        0 => RateRead::Known(PunctureRate::R1_2),
+        1 => RateRead::Known(PunctureRate::R2_3),
+        2 => RateRead::Known(PunctureRate::R3_4),
+        3 => RateRead::Known(PunctureRate::R5_6),
+        4 => RateRead::Known(PunctureRate::R7_8),
+        _ => RateRead::Reserved,
+    }
+}
+
+// The 2-bit code of a guard interval (EN 300 744, 4.6.2.8).
+fn guard_code(guard: GuardInterval) -> u8
+    ensures { λ r. ⌜ r ≡ guardCode guard ⌝ }
+{
+    match guard {
+        GuardInterval::G1_32 => 0,
+        GuardInterval::G1_16 => 1,
+        GuardInterval::G1_8 => 2,
+        GuardInterval::G1_4 => 3,
+    }
+}
+
+// The guard interval of a code; two bits say no more than 3.
+fn guard_from_code(code: u8) -> GuardRead
+    ensures { λ r. ⌜ r ≡ guardOf code ⌝ }
+{
+    match code {
+        0 => GuardRead::Known(GuardInterval::G1_32),
+        1 => GuardRead::Known(GuardInterval::G1_16),
+        2 => GuardRead::Known(GuardInterval::G1_8),
+        3 => GuardRead::Known(GuardInterval::G1_4),
+        _ => GuardRead::Reserved,
+    }
+}
+
+// The codes of a word.
+pub fn codes_of(word: TpsWord) -> Codes
+    ensures { λ r. ⌜ r ≡ codesOf word ⌝ }
+{
+    let constellation = word.constellation;
+    let rate = word.code_rate_hp;
+    let guard = word.guard;
+    Codes {
+        frame: word.frame_number,
+        constellation: constellation_code(constellation),
+        rate: rate_code(rate),
+        guard: guard_code(guard),
+        cell: word.cell_id,
+    }
+}
+
+// The word that codes say, or RESERVED where one of them stands for nothing.
+pub fn word_of(codes: Codes) -> Unpacked
+    ensures { λ r. ⌜ r ≡ wordOf codes ⌝ }
+{
+    let ConstellationRead::Known(constellation) = constellation_from_code(codes.constellation)
+    else {
+        return Unpacked::Refused(ground::RESERVED);
+    };
+    let RateRead::Known(code_rate_hp) = rate_from_code(codes.rate) else {
+        return Unpacked::Refused(ground::RESERVED);
+    };
+    let GuardRead::Known(guard) = guard_from_code(codes.guard) else {
+        return Unpacked::Refused(ground::RESERVED);
+    };
+    Unpacked::Word(TpsWord {
+        frame_number: codes.frame,
+        constellation,
+        code_rate_hp,
+        guard,
+        cell_id: codes.cell,
+    })
+}
+
+// ---- what a receiver holds
+
+// How many symbols stand, a count above 68 counting as 68.
+pub fn standing_count(count: usize) -> usize
+    ensures { λ r. ⌜ r ≡ min 68 count ⌝ }
+{
+    if count < 68 { count } else { 68 }
+}
 
 // The first 17 cells.
 pub fn first_cells(cells: &[f32]) -> [Cell; 17]
@@ -13,7 +172,7 @@ pub fn first_cells(cells: &[f32]) -> [Cell; 17]
     let mut first = [Cell { re: 0.0, im: 0.0 }; 17];
     let mut k: usize = 0;
     while k < 17 {
-        first[k] = carriers::inner::cell_at(cells, k);
+        first[k] = ground::inner::cell_at(cells, k);
         k += 1;
     }
     first

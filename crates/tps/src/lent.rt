@@ -3,10 +3,10 @@ ghost use mathlib.Core.Path.{_≡_};
 ghost use Prim.Native.Nat.{_≤_};
 ghost use lib.ListN.{length};
 ghost use Rattle.ground.specs.Answer.{written};
-ghost use Rattle.carriers.specs.Cells.{flat};
-ghost use Rattle.tps.specs.Receive.{firstCells, correlation, bitOf, fedOf};
+ghost use Rattle.ground.specs.Cells.{flat};
+ghost use Rattle.tps.specs.Receive.{firstCells, correlation, bitOf, feedAnswer};
 ghost use Rattle.tps.specs.Lent.{lentDecoder, lentFed};
-use super::TpsBit;
+use super::receiver::TpsBit;
 
 // The sum of the carriers' products with the previous symbol's, in order from +0.0, each operation rounded once.
 fn correlate(cells: &[f32], prev: &[f32]) -> f32
@@ -16,8 +16,8 @@ fn correlate(cells: &[f32], prev: &[f32]) -> f32
     let mut sum = 0.0f32;
     let mut k: usize = 0;
     while k < 17 {
-        let a = carriers::inner::cell_at(cells, k);
-        let b = carriers::inner::cell_at(prev, k);
+        let a = ground::inner::cell_at(cells, k);
+        let b = ground::inner::cell_at(prev, k);
         sum = sum + (a.re * b.re - a.im * (-b.im));
         k += 1;
     }
@@ -44,11 +44,7 @@ fn put_cells(cells: &[f32], prev: &mut [f32])
     requires { ⌜ (34 ≤ length (now cells)) × (34 ≤ length (now prev)) ⌝ }
     ensures { λ _. ⌜ now (prev .exit) ≡ written (flat (firstCells 17 (now (cells .entry)))) (now (prev .entry)) ⌝ }
 {
-    let mut k: usize = 0;
-    while k < 17 {
-        carriers::inner::put_cell(prev, k, carriers::inner::cell_at(cells, k));
-        k += 1;
-    }
+    ground::inner::copy_cells(&cells[..34], &mut prev[..34]);
 }
 
 // The bit of one symbol's cells, re and im in turn, in rising active order (EN 300 744, 4.6.3).
@@ -58,7 +54,8 @@ pub fn feed_symbol(
     count: &mut usize,
     cells: &[f32],
 ) -> TpsBit
-    ensures { λ r. ⌜ lentFed r (now (prev .exit)) (now (bits .exit)) (now (count .exit)) ≡ fedOf (lentDecoder (now (prev .entry)) (now (bits .entry)) (now (count .entry))) (now (cells .entry)) ⌝ }
+    ensures { λ r. ⌜ lentFed r (now (prev .exit)) (now (bits .exit)) (now (count .exit)) ≡ feedAnswer
+        (lentDecoder (now (prev .entry)) (now (bits .entry)) (now (count .entry))) (now (cells .entry)) ⌝ }
 {
     if cells.len() < 34 {
         return TpsBit::Refused(ground::LENGTH);

@@ -1,4 +1,4 @@
-// tpsreport: reads received TPS words from standard input, one a line, and writes the report on them to standard output.
+// tpsreport: reads received TPS words from standard input, one a line, and writes the report to standard output.
 ghost use mathlib.Core.Path.{_≡_};
 ghost use lib.ListN.{length};
 use ground::Counted;

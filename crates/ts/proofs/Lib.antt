@@ -1,5 +1,4 @@
-pub mod Packets
 pub mod Numbers
+pub mod Packets
 pub mod Stuffing
 pub mod Dispersal
-pub mod Theorems

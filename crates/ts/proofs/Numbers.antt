@@ -1,9 +1,9 @@
 -- The number of each way out of a call. Assumes nothing.
+use Prim.Native.Nat.{ℕ, _*_, _/_, _%_, _≤_, _<_}
 use mathlib.Core.Path.{_≡_, subst}
 use mathlib.Core.List.{List}
-use Prim.Native.Nat.{ℕ, _*_, _/_, _%_, _≤_, _<_}
 use lib.ListN.{length}
-use borrow.Author.Tests.{lt-ltb, le-ltb, eq-eqb, ne-eqb, le-leb, lt-leb}
+use borrow.Author.Tests.{lt-ltb, le-ltb, eq-eqb, ne-eqb}
 use Rattle.ground.specs.Refusal.{ACCEPTED, LENGTH, OUTPUT-SHORT}
 use Rattle.ts.specs.Packets.{count, packetizeNo, depacketizeNo}
 use Rattle.ts.specs.Stuffing.{stuffNo}
@@ -45,17 +45,13 @@ module _ (used target : ℕ) (o : List ℕ) where
     stuff-ragged m = rw (le-ltb (length o) used h, ne-eqb (used % 188) 0 m)
 
     module _ (m : used % 188 ≡ 0) where
-      pub stuff-there : target ≤ used / 188 → stuffNo used target o ≡ ACCEPTED
+      pub stuff-short : length o < 188 * target → stuffNo used target o ≡ OUTPUT-SHORT
       unfolding stuffNo
-      stuff-there l = rw (le-ltb (length o) used h, eq-eqb (used % 188) 0 m, le-leb target (used / 188) l)
+      stuff-short k = rw (le-ltb (length o) used h, eq-eqb (used % 188) 0 m, lt-ltb (length o) (188 * target) k)
 
-      pub stuff-short : used / 188 < target → length o < 188 * target → stuffNo used target o ≡ OUTPUT-SHORT
+      pub stuff-accepted : 188 * target ≤ length o → stuffNo used target o ≡ ACCEPTED
       unfolding stuffNo
-      stuff-short l k = rw (le-ltb (length o) used h, eq-eqb (used % 188) 0 m, lt-leb target (used / 188) l, lt-ltb (length o) (188 * target) k)
-
-      pub stuff-accepted : used / 188 < target → 188 * target ≤ length o → stuffNo used target o ≡ ACCEPTED
-      unfolding stuffNo
-      stuff-accepted l k = rw (le-ltb (length o) used h, eq-eqb (used % 188) 0 m, lt-leb target (used / 188) l, le-ltb (length o) (188 * target) k)
+      stuff-accepted k = rw (le-ltb (length o) used h, eq-eqb (used % 188) 0 m, le-ltb (length o) (188 * target) k)
 
 pub disperse-ragged : (s : List ℕ) → (length s % 188 ≡ 0 → ⊥) → disperseNo s ≡ LENGTH
 unfolding disperseNo

@@ -1,14 +1,19 @@
--- A packet's length, the part of a payload that becomes one, and the part of a packet that is its payload. Assumes nothing.
-use mathlib.Core.Path.{_≡_, refl, sym, ap, ap₂, _∙_}
-use mathlib.Core.List.{List, [], _∷_, _++_, append-nil}
-use Prim.Native.Nat.{ℕ, zero, suc, _+_, _-_, _*_, _≤_, min}
-use native.Mathlib.Nat.{suc-min-suc, zero-min}
+-- A packet's length, the part of a payload that becomes one, and the part of a packet that is its payload; taking
+-- apart what was packetized gives the payload, then zeros. Assumes nothing.
+use Prim.Native.Nat.{ℕ, zero, suc, _+_, _*_, _<_, _≤_, _-_, min, _/_}
 use native.Mathlib.Omega.{arith}
-use lib.ListN.{length, take, drop, set, replicate, length-append, length-take, length-drop, length-replicate, drop-of-length-le}
-use lib.Seq.{drop-drop, take-nil, take-all, take-at, drop-at}
+use native.Mathlib.Nat.{suc-min-suc, zero-min}
+use mathlib.Core.Path.{_≡_, refl, sym, ap, ap₂, _∙_}
+use mathlib.Core.Bool.{Bool, true, false}
+use mathlib.Core.List.{List, [], _∷_, _++_, append-nil, append-assoc}
+use lib.Dec.{leb}
+use lib.ListN.{length, set, take, drop, length-take, length-drop, drop-of-length-le, replicate, length-append, length-replicate, take-append-drop, replicate-append-replicate}
+use lib.Seq.{take-all, drop-at, drop-drop, take-nil, take-at}
+use borrow.Author.Tests.{leb-true, leb-false}
 use borrow.Rule.Slice.PartMut.{midOf, putMid}
-use Rattle.ground.proofs.Chunks.{Each}
-use Rattle.ts.specs.Packets.{padded, packet}
+use Rattle.ground.specs.Chunks.{chunks}
+use Rattle.ground.proofs.Chunks.{Each, chunks-length, chunks-chunks}
+use Rattle.ts.specs.Packets.{padded, packet, count, packetized, payloads}
 
 pub padded-length : (c : List ℕ) → length c ≤ 187 → length (padded c) ≡ 187
 unfolding padded
@@ -73,3 +78,51 @@ unfolding packet
 packet-put c [] t n l en et = absurd (omega arith)
 packet-put c (x ∷ p) t n l en et =
     ap (λ (y : List ℕ). 0x47 ∷ y) (ap₂ (λ (y z : List ℕ). y ++ z) et (drop-of-length-le p {i = n} (omega arith)) ∙ append-nil (padded c))
+
+-- ---- taking apart what was packetized
+
+-- the first part and its zeros, and then the rest and its zeros
+padded-join : (s : List ℕ) (n : ℕ) (t : Bool) → leb 187 (length s) ≡ t → length s ≤ 187 * suc n
+    → padded (take 187 s) ++ (drop 187 s ++ replicate (187 * n - length (drop 187 s)) 0) ≡ s ++ replicate (187 * suc n - length s) 0
+unfolding padded
+padded-join s n true e h =
+    let l : 187 ≤ length s = leb-true 187 (length s) e in
+    let a : 187 - length (take 187 s) ≡ 0 = simp length-take (omega arith) in
+    let b : 187 * n - length (drop 187 s) ≡ 187 * suc n - length s = simp length-drop (omega arith) in
+    ap₂ (λ (x y : ℕ). (take 187 s ++ replicate x 0) ++ (drop 187 s ++ replicate y 0)) a b
+    ∙ ap (λ (x : List ℕ). x ++ (drop 187 s ++ replicate (187 * suc n - length s) 0)) (append-nil (take 187 s))
+    ∙ sym (append-assoc (take 187 s) (drop 187 s) (replicate (187 * suc n - length s) 0))
+    ∙ ap (λ (x : List ℕ). x ++ replicate (187 * suc n - length s) 0) (take-append-drop 187 s)
+padded-join s n false e h =
+    let l : length s < 187 = leb-false 187 (length s) e in
+    let t : take 187 s ≡ s = take-all 187 s (omega arith) in
+    let d : drop 187 s ≡ [] = drop-of-length-le s {i = 187} (omega arith) in
+    let z : 187 - length s + (187 * n - 0) ≡ 187 * suc n - length s = omega arith in
+    ap₂ (λ (x y : List ℕ). (x ++ replicate (187 - length x) 0) ++ (y ++ replicate (187 * n - length y) 0)) t d
+    ∙ append-assoc s (replicate (187 - length s) 0) (replicate (187 * n - 0) 0)
+    ∙ ap (λ (x : List ℕ). s ++ x) (replicate-append-replicate (187 - length s) (187 * n - 0) 0 ∙ ap (λ (x : ℕ). replicate x 0) z)
+
+padded-chunks : (n i : ℕ) (s : List ℕ) → length s ≤ 187 * n → chunks (λ (j : ℕ) (c : List ℕ). padded c) 187 n i s ≡ s ++ replicate (187 * n - length s) 0
+unfolding chunks
+padded-chunks zero i [] h = refl
+padded-chunks zero i (x ∷ s) h = absurd (omega arith)
+padded-chunks (suc n) i s h =
+    ap (λ (x : List ℕ). padded (take 187 s) ++ x) (padded-chunks n (i + 1) (drop 187 s) (simp length-drop (omega arith)))
+    ∙ padded-join s n (leb 187 (length s)) refl h
+
+packetized-length : (s : List ℕ) → length (packetized s) ≡ 188 * count (length s)
+packetized-length s = chunks-length (λ (i : ℕ) (c : List ℕ). packet c) 187 188 (count (length s)) 0 s (packets-each (count (length s)) s)
+
+-- what `ts_depacketize` writes of what `ts_packetize` wrote: the payload, then zeros
+pub taken-apart-is-payload : (s : List ℕ) → payloads (packetized s) ≡ s ++ replicate (187 * count (length s) - length s) 0
+unfolding packet
+taken-apart-is-payload s =
+    let n : ℕ = count (length s) in
+    let e : length (packetized s) / 188 ≡ n = omega (arith, packetized-length s) in
+    ap (λ (k : ℕ). chunks (λ (i : ℕ) (p : List ℕ). drop 1 p) 188 k 0 (packetized s)) e
+    ∙ chunks-chunks (λ (i : ℕ) (c : List ℕ). packet c) 187 188 (λ (i : ℕ) (p : List ℕ). drop 1 p) n 0 s (packets-each n s)
+    ∙ padded-chunks n 0 s (omega arith)
+
+-- a payload of 188 makes 376 bytes
+pub two-packets : (s : List ℕ) → length s ≡ 188 → length (packetized s) ≡ 376
+two-packets s e = packetized-length s ∙ ap (λ (n : ℕ). 188 * count n) e

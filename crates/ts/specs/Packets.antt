@@ -1,12 +1,13 @@
 -- Document 01, 'Transport packets': a packet is 188 bytes, 0x47 and then 187 of payload.
 use mathlib.Core.Bool.{not}
-use mathlib.Core.List.{List, _∷_, _++_}
+use mathlib.Core.List.{List, [], _∷_, _++_}
 use Prim.Native.Nat.{ℕ, _+_, _-_, _*_, _/_, _%_, max}
-use lib.Dec.{eqb, ltb}
+use lib.Dec.{eqb}
 use lib.ListN.{length, drop, replicate}
-use Rattle.ground.specs.Refusal.{ACCEPTED, LENGTH, OUTPUT-SHORT}
-use Rattle.ground.specs.Answer.{pick}
+use Rattle.ground.specs.Answer.{counted, kept, written, short, fillNo}
 use Rattle.ground.specs.Chunks.{chunks}
+use Rattle.ground.specs.Refusal.{LENGTH, OUTPUT-SHORT, _gives_, firstOf}
+use Rattle.ground.specs.declared.Counted.{Counted}
 
 -- how many packets n bytes of payload give: max(1, ceil(n / 187))
 abbrev pub count : ℕ → ℕ
@@ -22,19 +23,33 @@ packet c = 0x47 ∷ padded c
 
 -- every 187 bytes of the payload become a packet, and so does what is left
 abbrev pub packetized : List ℕ → List ℕ
-packetized s = chunks (λ (i : ℕ) (c : List ℕ). packet c) 187 (count (length s)) 0 s
+packetized payload = chunks (λ (i : ℕ) (c : List ℕ). packet c) 187 (count (length payload)) 0 payload
 
--- the number of packetizing the payload s into the lent output o
+-- ---- packetizing a payload into a lent output: its number, the bytes written, and the output
 unfoldable pub packetizeNo : List ℕ → List ℕ → ℕ
-packetizeNo s o = pick (ltb (length o) (188 * count (length s))) OUTPUT-SHORT ACCEPTED
+packetizeNo payload out = fillNo (188 * count (length payload)) out
+
+abbrev pub packetizeAnswer : List ℕ → List ℕ → Counted
+packetizeAnswer payload out = counted (packetizeNo payload out) (188 * count (length payload))
+
+abbrev pub packetizeLeaves : List ℕ → List ℕ → List ℕ
+packetizeLeaves payload out = kept (packetizeNo payload out) (written (packetized payload) out) out
 
 -- taking apart drops the first byte of each packet
 abbrev pub payloads : List ℕ → List ℕ
-payloads s = chunks (λ (i : ℕ) (p : List ℕ). drop 1 p) 188 (length s / 188) 0 s
+payloads packets = chunks (λ (i : ℕ) (p : List ℕ). drop 1 p) 188 (length packets / 188) 0 packets
 
--- the number of taking the packets s apart into the lent output o
+-- ---- taking packets apart into a lent output: its number, the bytes written, and the output
 unfoldable pub depacketizeNo : List ℕ → List ℕ → ℕ
-depacketizeNo s o =
-    pick (eqb (length s) 0) LENGTH
-    (pick (not (eqb (length s % 188) 0)) LENGTH
-    (pick (ltb (length o) (187 * (length s / 188))) OUTPUT-SHORT ACCEPTED))
+depacketizeNo packets out =
+    firstOf
+    (eqb (length packets) 0 gives LENGTH
+    ∷ not (eqb (length packets % 188) 0) gives LENGTH
+    ∷ short (187 * (length packets / 188)) out gives OUTPUT-SHORT
+    ∷ [])
+
+abbrev pub depacketizeAnswer : List ℕ → List ℕ → Counted
+depacketizeAnswer packets out = counted (depacketizeNo packets out) (187 * (length packets / 188))
+
+abbrev pub depacketizeLeaves : List ℕ → List ℕ → List ℕ
+depacketizeLeaves packets out = kept (depacketizeNo packets out) (written (payloads packets) out) out

@@ -1,9 +1,9 @@
 // Energy dispersal, packet by packet, with the register's outputs of a group made before.
 ghost use mathlib.Core.Path.{_≡_};
+ghost use mathlib.Core.Bool.{cond};
 ghost use Prim.Native.Nat.{_%_, _<_};
 ghost use lib.Dec.{eqb};
 ghost use lib.ListN.{length, getD, set};
-ghost use Rattle.ground.specs.Answer.{pick};
 ghost use Rattle.dispersal.specs.Register.{start};
 ghost use Rattle.dispersal.specs.Inner.{stream};
 ghost use Rattle.ts.specs.Dispersal.{sync, dispersedPacket, dispersed};
@@ -15,7 +15,7 @@ const TS_DISPERSAL_GROUP: usize = 8;
 
 // What the first byte of the packet at a place in its group is XORed with.
 fn sync_mask(place: usize) -> u8
-    ensures { λ r. ⌜ r ≡ pick (eqb place 0) 0xFF 0 ⌝ }
+    ensures { λ r. ⌜ r ≡ cond (eqb place 0) 0xFF 0 ⌝ }
 {
     if place == 0 {
         return 0xFF;

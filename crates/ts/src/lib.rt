@@ -1,11 +1,11 @@
 // Transport packets, null packets and stuffing, and energy dispersal over packets (EN 300 744, 4.3.1).
 ghost use mathlib.Core.Path.{_≡_};
-ghost use Prim.Native.Nat.{_+_, _-_, _*_, _/_, _%_, _^_, _<_, _≤_, min, max};
+ghost use Prim.Native.Nat.{_+_, _-_, _/_, _%_, _^_, _<_, _≤_, min};
 ghost use lib.ListN.{length};
-ghost use Rattle.ground.specs.Answer.{counted, kept, written};
-ghost use Rattle.ts.specs.Packets.{count, padded, packet, packetized, packetizeNo, payloads, depacketizeNo};
-ghost use Rattle.ts.specs.Stuffing.{null, nulls, stuffNo, stuffed};
-ghost use Rattle.ts.specs.Dispersal.{disperseNo, leftDispersed};
+ghost use Rattle.ts.specs.Packets.{count, padded, packet, packetizeAnswer, packetizeLeaves, depacketizeAnswer};
+ghost use Rattle.ts.specs.Packets.{depacketizeLeaves};
+ghost use Rattle.ts.specs.Stuffing.{null, nulls, stuffAnswer, stuffLeaves};
+ghost use Rattle.ts.specs.Dispersal.{disperseAnswer, disperseLeaves};
 use ground::Counted;
 
 mod dispersing;
@@ -39,18 +39,6 @@ fn chunk_end(from: usize, len: usize) -> usize
     from + TS_PAYLOAD_LEN
 }
 
-// Copies 187 bytes, a number that the compiler can see.
-fn copy_full(payload: &[u8], tail: &mut [u8])
-    requires { ⌜ (length (now payload) ≡ 187) × (length (now tail) ≡ 187) ⌝ }
-    ensures { λ _. ⌜ now (tail .exit) ≡ now (payload .entry) ⌝ }
-{
-    let mut i = 0;
-    while i < TS_PAYLOAD_LEN {
-        tail[i] = payload[i];
-        i += 1;
-    }
-}
-
 // Puts at most 187 bytes of payload behind a packet's first byte, and zeros behind them.
 fn put_payload(payload: &[u8], tail: &mut [u8])
     requires { ⌜ (length (now payload) ≤ 187) × (length (now tail) ≡ 187) ⌝ }
@@ -58,7 +46,7 @@ fn put_payload(payload: &[u8], tail: &mut [u8])
 {
     let len = payload.len();
     if len == TS_PAYLOAD_LEN {
-        copy_full(payload, tail);
+        ground::inner::copy(payload, tail);
         return;
     }
     ground::inner::copy(payload, &mut tail[..len]);
@@ -76,8 +64,8 @@ fn put_packet(payload: &[u8], out: &mut [u8])
 
 // Makes whole packets of a payload and answers the bytes written; OUTPUT SHORT where they don't fit.
 pub fn ts_packetize(payload: &[u8], out: &mut [u8]) -> Counted
-    ensures answer { λ r. ⌜ r ≡ counted (packetizeNo (now (payload .entry)) (now (out .entry))) (188 * count (length (now (payload .entry)))) ⌝ }
-    ensures output { λ _. ⌜ now (out .exit) ≡ kept (packetizeNo (now (payload .entry)) (now (out .entry))) (written (packetized (now (payload .entry))) (now (out .entry))) (now (out .entry)) ⌝ }
+    ensures answer { λ r. ⌜ r ≡ packetizeAnswer (now (payload .entry)) (now (out .entry)) ⌝ }
+    ensures output { λ _. ⌜ now (out .exit) ≡ packetizeLeaves (now (payload .entry)) (now (out .entry)) ⌝ }
 {
     let len = payload.len();
     let n = packets_for(len);
@@ -96,10 +84,11 @@ pub fn ts_packetize(payload: &[u8], out: &mut [u8]) -> Counted
     Counted::Count(TS_PACKET_LEN * n)
 }
 
-// Takes whole packets apart and answers the bytes written; LENGTH for none or a ragged length, OUTPUT SHORT where the payloads don't fit.
+// Takes whole packets apart and answers the bytes written; LENGTH for none or a ragged length, OUTPUT SHORT where the
+// payloads don't fit.
 pub fn ts_depacketize(packets: &[u8], out: &mut [u8]) -> Counted
-    ensures answer { λ r. ⌜ r ≡ counted (depacketizeNo (now (packets .entry)) (now (out .entry))) (187 * (length (now (packets .entry)) / 188)) ⌝ }
-    ensures output { λ _. ⌜ now (out .exit) ≡ kept (depacketizeNo (now (packets .entry)) (now (out .entry))) (written (payloads (now (packets .entry))) (now (out .entry))) (now (out .entry)) ⌝ }
+    ensures answer { λ r. ⌜ r ≡ depacketizeAnswer (now (packets .entry)) (now (out .entry)) ⌝ }
+    ensures output { λ _. ⌜ now (out .exit) ≡ depacketizeLeaves (now (packets .entry)) (now (out .entry)) ⌝ }
 {
     let n = packets.len() / TS_PACKET_LEN;
     if packets.len() == 0 {
@@ -150,11 +139,11 @@ fn put_null_packets(out: &mut [u8])
     }
 }
 
-// Appends null packets to the packets in use, up to a target in packets, and answers the bytes then in use; LENGTH where those in use
-// aren't whole packets or are more than the buffer, OUTPUT SHORT where the target doesn't fit.
+// Appends null packets to the packets in use, up to a target in packets, and answers the bytes then in use; LENGTH
+// where those in use aren't whole packets or are more than the buffer, OUTPUT SHORT where the target doesn't fit.
 pub fn ts_stuff_null_packets(ts: &mut [u8], used: usize, target: usize) -> Counted
-    ensures answer { λ r. ⌜ r ≡ counted (stuffNo used target (now (ts .entry))) (max used (188 * target)) ⌝ }
-    ensures buffer { λ _. ⌜ now (ts .exit) ≡ kept (stuffNo used target (now (ts .entry))) (stuffed used target (now (ts .entry))) (now (ts .entry)) ⌝ }
+    ensures answer { λ r. ⌜ r ≡ stuffAnswer used target (now (ts .entry)) ⌝ }
+    ensures buffer { λ _. ⌜ now (ts .exit) ≡ stuffLeaves used target (now (ts .entry)) ⌝ }
 {
     if ts.len() < used {
         return Counted::Refused(ground::LENGTH);
@@ -175,8 +164,8 @@ pub fn ts_stuff_null_packets(ts: &mut [u8], used: usize, target: usize) -> Count
 
 // Whitens whole packets where they stand, or undoes it, and answers how many they are; LENGTH for a ragged length.
 pub fn ts_energy_disperse(packets: &mut [u8]) -> Counted
-    ensures answer { λ r. ⌜ r ≡ counted (disperseNo (now (packets .entry))) (length (now (packets .entry)) / 188) ⌝ }
-    ensures buffer { λ _. ⌜ now (packets .exit) ≡ leftDispersed (now (packets .entry)) ⌝ }
+    ensures answer { λ r. ⌜ r ≡ disperseAnswer (now (packets .entry)) ⌝ }
+    ensures buffer { λ _. ⌜ now (packets .exit) ≡ disperseLeaves (now (packets .entry)) ⌝ }
 {
     let n = packets.len() / TS_PACKET_LEN;
     if packets.len() % TS_PACKET_LEN != 0 {

@@ -1,10 +1,11 @@
--- `bch::tps_bch_decode` meets its contract: the tests give the number, and the core names the places of the codeword within distance two. Assumes nothing.
+-- `bch::tps_bch_decode` meets its contract: the tests give the number, and the search names the places of the
+-- codeword within distance two. Assumes nothing.
 use mathlib.Core.Path.{sym, _∙_}
 use lib.Seq.{length-take-le}
-use Rattle.ground.proofs.Bits.{bits-of}
-use Rattle.bch.proofs.Answering.{no-length, no-bit, no-room, accepted, not-no-word, decode-refused, decode-none, decode-found}
 use borrow.Author.Tests.{not-true, not-false}
 use borrow.Author.Needs.{needs}
+use Rattle.ground.proofs.Bits.{bits-of}
+use Rattle.bch.proofs.Answer.{no-length, no-bit, no-room, accepted, not-no-word, decode-refused, decode-none, decode-found}
 use Rattle.bch.proofs.tps_bch_decode.Statement.{statement}
 use Rattle.bch.proofs.tps_bch_decode.Tie as tie
 

@@ -1,11 +1,12 @@
--- `bch::tps_bch_encode` meets its contract: the tests give the number, and the codeword is written before what stood behind it. Assumes nothing.
+-- `bch::tps_bch_encode` meets its contract: the tests give the number, and the codeword is written before what stood
+-- behind it. Assumes nothing.
 use mathlib.Core.Path.{sym, _∙_}
 use lib.Seq.{length-take-le}
-use Rattle.ground.proofs.Bits.{bits-of}
-use Rattle.bch.proofs.Encoding.{encode-length}
-use Rattle.bch.proofs.Answering.{no-length, no-bit, no-room, accepted, encode-refused, encode-accepted}
 use borrow.Author.Tests.{not-true, not-false}
 use borrow.Author.Needs.{needs}
+use Rattle.ground.proofs.Bits.{bits-of}
+use Rattle.bch.proofs.Codeword.{encode-length}
+use Rattle.bch.proofs.Answer.{no-length, no-bit, no-room, accepted, encode-refused, encode-accepted}
 use Rattle.bch.proofs.tps_bch_encode.Statement.{statement}
 use Rattle.bch.proofs.tps_bch_encode.Tie as tie
 

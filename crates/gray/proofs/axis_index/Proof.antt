@@ -1,6 +1,6 @@
 -- `gray::axis_index` meets its contract: one, two or three bits write its answer. Assumes nothing.
 use native.Mathlib.Omega.{arith}
-use Rattle.gray.proofs.Indices.{index-1, index-2, index-3}
+use Rattle.gray.proofs.IndexBits.{index-1, index-2, index-3}
 use borrow.Author.Needs.{needs}
 use Rattle.gray.proofs.axis_index.Statement.{statement}
 use Rattle.gray.proofs.axis_index.Tie as tie

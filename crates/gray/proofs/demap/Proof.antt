@@ -1,7 +1,8 @@
 -- `gray::demap` meets its contract: both indices are the first of the least distances, and their bits fill the front. Assumes nothing.
 use native.Mathlib.Omega.{arith}
 use denote.Ref.{now}
-use Rattle.gray.proofs.Answers.{axis-range, no-room, room}
+use Rattle.gray.proofs.Levels.{axis-range}
+use Rattle.gray.proofs.Answers.{demap-short, demap-written}
 use borrow.Author.Needs.{needs}
 use Rattle.gray.proofs.demap.Statement.{statement}
 use Rattle.gray.proofs.demap.Tie as tie
@@ -13,7 +14,7 @@ mul-v : tie.Need-mul-v
 mul-v c = omega (arith, axis-range (c .before .before .args .order))
 
 returns : tie.Need-returns
-returns c = no-room (c .before .before .before .args .order) _ (now (c .before .before .before .args .out)) _ (c .before .axis-bits .ensures) (c .if1 .taken)
+returns c = demap-short (c .before .before .before .args .order) _ (now (c .before .before .before .args .out)) _ (c .before .axis-bits .ensures) (c .if1 .taken)
 
 nearest-index-requires : tie.Need-nearest-index-requires
 nearest-index-requires c κs = search needs
@@ -31,7 +32,7 @@ returns-2 : tie.Need-returns-2
 returns-2 c =
     let room-known = c .before .before .before .before .before .before .before in
     let args = room-known .before .before .args in
-    room (args .order) (args .sym) (now (args .out)) _ _ _ _ (room-known .axis-bits .ensures) (omega arith)
+    demap-written (args .order) (args .sym) (now (args .out)) _ _ _ _ (room-known .axis-bits .ensures) (omega arith)
     (c .before .before .before .before .before .nearest-index .ensures) (c .before .before .before .before .nearest-index2 .ensures)
     (c .before .before .write-bits .ensures)
 

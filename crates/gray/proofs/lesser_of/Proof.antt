@@ -1,14 +1,12 @@
 -- `gray::lesser_of` meets its contract: its test is the definition's. Assumes nothing.
-use lib.Ieee.{lt}
-use Rattle.gray.proofs.Tests.{picked, passed}
 use Rattle.gray.proofs.lesser_of.Statement.{statement}
 use Rattle.gray.proofs.lesser_of.Tie as tie
 
 returns : tie.Need-returns
-returns c = let args = c .before .args in picked (lt (args .a) (args .b)) (args .a) (args .b) (c .if1 .taken)
+returns c = rw (c .if1 .taken)
 
 returns-2 : tie.Need-returns-2
-returns-2 c = let args = c .before .args in passed (lt (args .a) (args .b)) (args .a) (args .b) (c .if1 .left)
+returns-2 c = rw (c .if1 .left)
 
 pub lesser-of-spec : {M : Type 1} → statement M
 lesser-of-spec = tie.close (tie.spec returns returns-2)

@@ -1,14 +1,12 @@
 -- `gray::nearer` meets its contract: its test is the contract's. Assumes nothing.
-use lib.Ieee.{lt}
-use Rattle.gray.proofs.Tests.{picked, passed}
 use Rattle.gray.proofs.nearer.Statement.{statement}
 use Rattle.gray.proofs.nearer.Tie as tie
 
 returns : tie.Need-returns
-returns c = let args = c .before .before .before .args in picked (lt (args .b .apart) (args .a .apart)) (args .b) (args .a) (c .if1 .taken)
+returns c = rw (c .if1 .taken)
 
 returns-2 : tie.Need-returns-2
-returns-2 c = let args = c .before .before .before .args in passed (lt (args .b .apart) (args .a .apart)) (args .b) (args .a) (c .if1 .left)
+returns-2 c = rw (c .if1 .left)
 
 pub nearer-spec : {M : Type 1} → statement M
 nearer-spec = tie.close (tie.spec returns returns-2)

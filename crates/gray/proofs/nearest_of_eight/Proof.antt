@@ -1,6 +1,6 @@
 -- `gray::nearest_of_eight` meets its contract: two runs of four side by side. Assumes nothing.
 use borrow.Author.Needs.{needs}
-use Rattle.gray.proofs.Leads.{leads-both}
+use Rattle.gray.proofs.Nearest.{first-between-both}
 use Rattle.gray.proofs.nearest_of_eight.Statement.{statement}
 use Rattle.gray.proofs.nearest_of_eight.Tie as tie
 
@@ -14,7 +14,7 @@ nearer-requires : tie.Need-nearer-requires
 nearer-requires c κs = search needs
 
 returns : tie.Need-returns
-returns c = leads-both _ _ _ _ _ _ _ (c .before .before .nearest-of-four .ensures) (c .before .nearest-of-four2 .ensures) _ (c .nearer .ensures)
+returns c = first-between-both _ _ _ _ _ _ _ (c .before .before .nearest-of-four .ensures) (c .before .nearest-of-four2 .ensures) _ (c .nearer .ensures)
 
 pub nearest-of-eight-spec : {M : Type 1} → statement M
 nearest-of-eight-spec =

@@ -2,8 +2,9 @@
 use native.Mathlib.Omega.{arith}
 use Prim.Native.Nat.{ℕ, _+_}
 use mathlib.Core.Path.{_≡_, subst}
-use Rattle.gray.specs.Inner.{Leads}
-use Rattle.gray.proofs.Leads.{few-levels, leads-both}
+use Rattle.gray.specs.Inner.{FirstBetween}
+use Rattle.gray.proofs.Levels.{few-levels}
+use Rattle.gray.proofs.Nearest.{first-between-both}
 use borrow.Author.Needs.{needs}
 use Rattle.gray.proofs.nearest_of_four.Statement.{statement}
 use Rattle.gray.proofs.nearest_of_four.Tie as tie
@@ -24,8 +25,8 @@ returns : tie.Need-returns
 returns c =
     let start = c .before .before .before .args in
     let next : start .index + 2 + 2 ≡ start .index + 4 = omega arith in
-    leads-both _ _ _ _ _ _ _ (c .before .before .nearest-of-two .ensures)
-    (subst (λ (n : ℕ). Leads (start .order) (start .x) (start .index + 2) n (c .before .nearest-of-two2 .result)) next (c .before .nearest-of-two2 .ensures)) _ (c .nearer .ensures)
+    first-between-both _ _ _ _ _ _ _ (c .before .before .nearest-of-two .ensures)
+    (subst (λ (n : ℕ). FirstBetween (start .order) (start .x) (start .index + 2) n (c .before .nearest-of-two2 .result)) next (c .before .nearest-of-two2 .ensures)) _ (c .nearer .ensures)
 
 pub nearest-of-four-spec : {M : Type 1} → statement M
 nearest-of-four-spec =

@@ -1,7 +1,8 @@
 -- `gray::nearest_of_two` meets its contract: two runs of one index side by side. Assumes nothing.
 use native.Mathlib.Omega.{arith}
 use mathlib.Core.Path.{refl}
-use Rattle.gray.proofs.Leads.{few-levels, leads-one, leads-both}
+use Rattle.gray.proofs.Levels.{few-levels}
+use Rattle.gray.proofs.Nearest.{first-between-one, first-between-both}
 use borrow.Author.Needs.{needs}
 use Rattle.gray.proofs.nearest_of_two.Statement.{statement}
 use Rattle.gray.proofs.nearest_of_two.Tie as tie
@@ -22,7 +23,7 @@ returns : tie.Need-returns
 returns c =
     let a = c .before .before .candidate-at in
     let b = c .before .candidate-at2 in
-    leads-both _ _ _ _ _ _ _ (leads-one _ _ _ _ _ refl (a .ensures .0) (a .ensures .1)) (leads-one _ _ _ _ _ (omega arith) (b .ensures .0) (b .ensures .1)) _ (c .nearer .ensures)
+    first-between-both _ _ _ _ _ _ _ (first-between-one _ _ _ _ _ refl (a .ensures .0) (a .ensures .1)) (first-between-one _ _ _ _ _ (omega arith) (b .ensures .0) (b .ensures .1)) _ (c .nearer .ensures)
 
 pub nearest-of-two-spec : {M : Type 1} → statement M
 nearest-of-two-spec =

@@ -4,7 +4,8 @@ use mathlib.Core.Path.{sym, _∙_}
 use denote.Ref.{now}
 use Rattle.ground.specs.Bits.{Bits}
 use Rattle.ground.proofs.Bits.{bits-of}
-use Rattle.gray.proofs.Answers.{axis-range, in-levels, placed-on, placed-at}
+use Rattle.gray.proofs.Levels.{axis-range, in-levels}
+use Rattle.gray.proofs.Answers.{coordinate-of-bits, map-answer-point}
 use borrow.Author.Needs.{needs}
 use Rattle.gray.proofs.place.Statement.{statement}
 use Rattle.gray.proofs.place.Tie as tie
@@ -41,9 +42,9 @@ returns c =
     let o = start .args .order in
     let bits = now (start .args .bits) in
     let k = c .before .before .before .before .axis-bits .ensures in
-    placed-at o bits _ _ (sym (c .before .before .before .before .before .before .all-bits .ensures) ∙ c .before .before .before .before .before .if1 .taken)
-    (placed-on o bits 0 _ _ _ k (c .before .axis-point .ensures) (c .before .before .before .axis-index .ensures .0))
-    (placed-on o bits 1 _ _ _ k (c .axis-point2 .ensures) (c .before .before .axis-index2 .ensures .0))
+    map-answer-point o bits _ _ (sym (c .before .before .before .before .before .before .all-bits .ensures) ∙ c .before .before .before .before .before .if1 .taken)
+    (coordinate-of-bits o bits 0 _ _ _ k (c .before .axis-point .ensures) (c .before .before .before .axis-index .ensures .0))
+    (coordinate-of-bits o bits 1 _ _ _ k (c .axis-point2 .ensures) (c .before .before .axis-index2 .ensures .0))
 
 returns-2 : tie.Need-returns-2
 returns-2 c = search needs

@@ -1,8 +1,9 @@
 -- `gray::soft_qam16` meets its contract: each term is the least of two squares. Assumes nothing.
-use Rattle.gray.specs.declared.ConstellationOrder.the-variants.{Qam16}
+use Rattle.ground.specs.declared.ConstellationOrder.the-variants.{Qam16}
 use mathlib.Core.Path.{_∙_, ap₂}
 use Rattle.gray.specs.Soft.{lesser, squares}
-use Rattle.gray.proofs.Least.{least-of-two, soft-from}
+use Rattle.gray.proofs.Squares.{least-of-two}
+use Rattle.gray.proofs.SoftValues.{soft-from}
 use borrow.Author.Needs.{needs}
 use Rattle.gray.proofs.soft_qam16.Statement.{statement}
 use Rattle.gray.proofs.soft_qam16.Tie as tie

@@ -1,8 +1,9 @@
 -- `gray::soft_qpsk` meets its contract: each term is the one square. Assumes nothing.
-use Rattle.gray.specs.declared.ConstellationOrder.the-variants.{Qpsk}
+use Rattle.ground.specs.declared.ConstellationOrder.the-variants.{Qpsk}
 use mathlib.Core.Path.{_∙_}
 use Rattle.gray.specs.Soft.{squares}
-use Rattle.gray.proofs.Least.{least-of-one, soft-from}
+use Rattle.gray.proofs.Squares.{least-of-one}
+use Rattle.gray.proofs.SoftValues.{soft-from}
 use borrow.Author.Needs.{needs}
 use Rattle.gray.proofs.soft_qpsk.Statement.{statement}
 use Rattle.gray.proofs.soft_qpsk.Tie as tie

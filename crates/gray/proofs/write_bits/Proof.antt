@@ -1,23 +1,24 @@
--- `gray::write_bits` meets its contract: two bits a turn, and what is written with what is still to be written makes up the whole. Assumes nothing.
+-- `gray::write_bits` meets its contract: two bits a turn, from the output's front. Assumes nothing.
 use borrow.Author.Needs.{needs}
-use Prim.Native.Nat.{ℕ, _+_, _-_, _*_, _/_, _%_, _^_}
+use Prim.Native.Nat.{_-_, _*_, _≤_}
 use native.Mathlib.Omega.{arith}
-use mathlib.Core.Path.{_≡_, sym, ap, _∙_, subst}
-use mathlib.Core.List.{List}
-use lib.ListN.{length-set}
+use mathlib.Core.Path.{_≡_}
+use lib.ListN.{length, length-set}
 use denote.Ref.{now}
-use Rattle.gray.proofs.Writes.{pair, Written, none-written, one-written, all-written}
+use Rattle.ground.proofs.Front.{front, front-whole}
+use Rattle.gray.specs.Hard.{bitsInTurn}
+use Rattle.gray.proofs.IndexBits.{in-turn-length, in-turn-next}
 use Rattle.gray.proofs.write_bits.Statement.{statement}
 use Rattle.gray.proofs.write_bits.Tie as tie
 
 abbrev Inv-loop : tie.InvT-loop
-Inv-loop k i q out₀ j₀ out j = Written k i q j out₀ out
+Inv-loop count i q out₀ j₀ out j = (j ≤ count) × (length out ≡ length out₀) × (out ≡ front (bitsInTurn count i q) (2 * j) out₀)
 
 abbrev μ-loop : tie.MeasureT-loop
-μ-loop k i q out₀ j₀ out j = k - j
+μ-loop count i q out₀ j₀ out j = count - j
 
 loop-holds : tie.Need-loop-holds Inv-loop μ-loop
-loop-holds c = none-written (c .before .args .count) (c .before .args .i) (c .before .args .q) (now (c .before .args .out))
+loop-holds c = search needs
 
 sub-s : tie.Need-sub-s Inv-loop μ-loop
 sub-s c = search needs
@@ -60,23 +61,24 @@ loop-less c = search needs
 
 loop-again : tie.Need-loop-again Inv-loop μ-loop
 loop-again c =
-    let at-loop = c .before .before .before in
-    let args = at-loop .before .before .args in
-    let out = at-loop .loop .out in
-    let j = at-loop .loop .j in
-    let done = one-written (args .count) (args .i) (args .q) j (now (args .out)) out (c .before .before .loop-test .taken) (at-loop .before .before .pre .1) (at-loop .loop .inv) in
-    subst (λ (l : List ℕ). Written (args .count) (args .i) (args .q) (j + 1) (now (args .out)) l)
-    (ap (λ (a : ℕ). pair out (2 * j) a (args .q / 2 ^ (args .count - 1 - j) % 2)) (sym (c .before .low-bit .ensures)) ∙ ap (λ (b : ℕ). pair out (2 * j) (c .before .low-bit .result) b) (sym (c .low-bit2 .ensures))) done
+    let l = c .before .before .before .loop in
+    let z = c .before .before .before .before .before in
+    let a = z .args in
+    let h = c .before .before .loop-test .taken in (
+      omega arith,
+      simp length-set (l .inv .1),
+      in-turn-next (a .count) (a .i) (a .q) (l .j) (c .before .low-bit .result) (c .low-bit2 .result) (now (a .out)) (l .out) h (z .pre .1) (l .inv .2) (c .before .low-bit .ensures) (c .low-bit2 .ensures),
+    )
 
 same-length : tie.Need-same-length Inv-loop μ-loop
-same-length c = c .before .loop .inv .same
+same-length c = search needs
 
 returns : tie.Need-returns Inv-loop μ-loop
 returns c =
-    let args = c .before .before .before .args in
-    let end : c .before .loop .j ≡ args .count = omega arith in
-    all-written (args .count) (args .i) (args .q) (now (args .out)) (c .before .loop .out)
-    (subst (λ (n : ℕ). Written (args .count) (args .i) (args .q) n (now (args .out)) (c .before .loop .out)) end (c .before .loop .inv))
+    let l = c .before .loop in
+    let a = c .before .before .before .args in
+    let n : length (bitsInTurn (a .count) (a .i) (a .q)) ≡ 2 * a .count = in-turn-length (a .count) (a .i) (a .q) in
+    front-whole (bitsInTurn (a .count) (a .i) (a .q)) (now (a .out)) (l .out) (2 * l .j) (omega arith) (l .inv .2)
 
 pub write-bits-spec : {M : Type 1} → statement M
 write-bits-spec =

@@ -5,8 +5,5 @@ use lib.ListN.{length-replicate}
 use Rattle.replay.proofs.room.Statement.{statement}
 use Rattle.replay.proofs.room.Tie as tie
 
-returns : tie.Need-returns
-returns c = sym (length-replicate {0} {A = ℕ} 786432 0)
-
 pub room-spec : {M : Type 1} → statement M
-room-spec = tie.close (tie.spec returns)
+room-spec = tie.close (tie.spec (λ c. sym (length-replicate {0} {A = ℕ} 1310720 0)))

@@ -1,7 +1,7 @@
--- `report::put_heading` meets its contract: the heading stands at the front of an output that has the room. Assumes nothing.
+-- `report::put_heading` meets its contract: the heading stands at the front of an output with room. Assumes nothing.
 use native.Mathlib.Omega.{arith}
 use Rattle.report.specs.Text.{heading}
-use Rattle.report.proofs.Rooms.{text-refused, text-written}
+use Rattle.report.proofs.Calls.{text-refused, text-written}
 use borrow.Author.Needs.{needs}
 use Rattle.report.proofs.put_heading.Statement.{statement}
 use Rattle.report.proofs.put_heading.Tie as tie

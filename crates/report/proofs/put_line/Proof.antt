@@ -1,6 +1,6 @@
--- `report::put_line` meets its contract: the line stands at the front of an output that has the room. Assumes nothing.
+-- `report::put_line` meets its contract: the line stands at the front of an output with room. Assumes nothing.
 use Rattle.report.specs.Text.{lineText}
-use Rattle.report.proofs.Rooms.{text-refused, text-written}
+use Rattle.report.proofs.Calls.{text-refused, text-written}
 use borrow.Author.Needs.{needs}
 use Rattle.report.proofs.put_line.Statement.{statement}
 use Rattle.report.proofs.put_line.Tie as tie

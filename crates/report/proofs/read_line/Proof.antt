@@ -1,20 +1,20 @@
 -- `report::read_line` meets its contract: each way out gives what the line says. Assumes nothing.
 use mathlib.Core.Path.{sym, _∙_}
 use borrow.Author.Tests.{not-true, not-false}
-use Rattle.report.proofs.Answers.{line-of-another-length, line-of-no-digits, line-of-digits}
+use Rattle.report.proofs.LineAnswers.{other-length-refused, no-digits-refused, digits-unpacked}
 use borrow.Author.Needs.{needs}
 use Rattle.report.proofs.read_line.Statement.{statement}
 use Rattle.report.proofs.read_line.Tie as tie
 
 returns : tie.Need-returns
-returns c = line-of-another-length (c .before .before .args .line .now) (c .if1 .taken)
+returns c = other-length-refused (c .before .before .args .line .now) (c .if1 .taken)
 
 all-digits-requires : tie.Need-all-digits-requires
 all-digits-requires c κs = search needs
 
 returns-2 : tie.Need-returns-2
 returns-2 c =
-    line-of-no-digits (c .before .before .before .before .args .line .now) (c .before .before .if1 .left) (sym (c .before .all-digits .ensures) ∙ not-true _ (c .if2 .taken))
+    no-digits-refused (c .before .before .before .before .args .line .now) (c .before .before .if1 .left) (sym (c .before .all-digits .ensures) ∙ not-true _ (c .if2 .taken))
 
 bits-of-requires : tie.Need-bits-of-requires
 bits-of-requires c κs = (c .before .before .if1 .left, sym (c .before .all-digits .ensures) ∙ not-false _ (c .if2 .left))
@@ -29,7 +29,7 @@ returns-3 : tie.Need-returns-3
 returns-3 c =
     let b = c .before .before in
     let d = b .before .before in
-    line-of-digits
+    digits-unpacked
     (d .before .before .before .args .line .now)
     (d .before .if1 .left)
     (sym (d .all-digits .ensures) ∙ not-false _ (b .before .if2 .left))

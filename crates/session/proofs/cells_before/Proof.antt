@@ -1,7 +1,7 @@
 -- `session::cells_before` meets its contract: none stand, or the latest one's place is read. Assumes nothing.
 use mathlib.Core.Path.{sym, ap, _∙_}
 use lib.Ieee.{ofBits}
-use Rattle.carriers.specs.Pilots.{null}
+use Rattle.ground.specs.Cells.{plusZero}
 use Rattle.tps.specs.Receive.{firstCells}
 use Rattle.session.specs.Session.{prevIn}
 use Rattle.session.proofs.Places.{part-rest, prev-later}
@@ -10,7 +10,7 @@ use Rattle.session.proofs.cells_before.Statement.{statement}
 use Rattle.session.proofs.cells_before.Tie as tie
 
 returns : tie.Need-returns
-unfolding prevIn ofBits null
+unfolding prevIn ofBits plusZero
 returns c = rw (c .if1 .taken)
 
 sub-from : tie.Need-sub-from

@@ -5,7 +5,7 @@ use Prim.Native.Nat.{ℕ, _+_, _*_, _-_, _/_, _≤_}
 use native.Mathlib.Omega.{arith}
 use lib.ListN.{length}
 use borrow.Rule.Slice.PartMut.{same-len-mid}
-use Rattle.ground.proofs.Chunks.{chunks-length, chunk-turn}
+use Rattle.ground.proofs.Chunks.{chunks-length, chunks-next}
 use Rattle.ground.proofs.Front.{front, front-full}
 use Rattle.ts.specs.Packets.{packet}
 use Rattle.ts.specs.Stuffing.{null, nulls}
@@ -64,7 +64,7 @@ loop-again c =
       omega arith,
       l .inv .1,
       same-len-mid (188 * l .i) k (l .out) (d .last .1 .0) (d .kept .1 .0) ∙ l .inv .2,
-      chunk-turn (λ (j : ℕ) (p : List ℕ). null) 188 188 n (l .i) k [] o (l .out) (d .last .1 .0) (nulls-each n) h (omega arith) (l .inv .3) (d .ensures ∙ c .before .before .before .before .before .before .before .ts-null-packet .ensures),
+      chunks-next (λ (j : ℕ) (p : List ℕ). null) 188 188 n (l .i) k [] o (l .out) (d .last .1 .0) (nulls-each n) h (omega arith) (l .inv .3) (d .ensures ∙ c .before .before .before .before .before .before .before .ts-null-packet .ensures),
     )
 
 same-length : tie.Need-same-length Inv-loop μ-loop

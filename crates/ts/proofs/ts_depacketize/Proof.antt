@@ -6,7 +6,7 @@ use native.Mathlib.Omega.{arith}
 use lib.ListN.{length, drop}
 use borrow.Rule.Slice.PartMut.{same-len-mid}
 use Rattle.ground.specs.Chunks.{chunks}
-use Rattle.ground.proofs.Chunks.{chunk-turn, chunk-end}
+use Rattle.ground.proofs.Chunks.{chunks-next, chunks-end}
 use Rattle.ground.proofs.Front.{front}
 use Rattle.ts.proofs.Packets.{payloads-each, lent-payload}
 use Rattle.ts.proofs.Numbers.{depacketize-empty, depacketize-ragged, depacketize-short, depacketize-accepted}
@@ -96,7 +96,7 @@ loop-again c =
       refl,
       l .inv .2,
       same-len-mid (187 * l .i) k (l .out) (d .last .1 .0) (d .kept .1 .0) ∙ l .inv .3,
-      chunk-turn (λ (j : ℕ) (p : List ℕ). drop 1 p) 188 187 n (l .i) k s (a .out .now) (l .out) (d .last .1 .0) (payloads-each n s (omega arith)) h (omega arith) (l .inv .4)
+      chunks-next (λ (j : ℕ) (p : List ℕ). drop 1 p) 188 187 n (l .i) k s (a .out .now) (l .out) (d .last .1 .0) (payloads-each n s (omega arith)) h (omega arith) (l .inv .4)
           (d .ensures ∙ lent-payload s (l .i) m (omega arith)),
     )
 
@@ -113,7 +113,7 @@ returns-4 c =
     let s = a .packets .now in
     let n : ℕ = length s / 188 in
     rw (depacketize-accepted s (a .out .now) (c .before .before .before .before .if1 .left) (c .before .before .before .if2 .left) (c .before .before .if3 .left))
-    (refl, chunk-end (λ (j : ℕ) (p : List ℕ). drop 1 p) 188 187 n (l .i) s (a .out .now) (l .out) (payloads-each n s (omega arith)) (omega arith) (l .inv .4))
+    (refl, chunks-end (λ (j : ℕ) (p : List ℕ). drop 1 p) 188 187 n (l .i) s (a .out .now) (l .out) (payloads-each n s (omega arith)) (omega arith) (l .inv .4))
 
 pub ts-depacketize-spec : {M : Type 1} → statement M
 ts-depacketize-spec =

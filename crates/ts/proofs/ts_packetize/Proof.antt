@@ -7,7 +7,7 @@ use lib.ListN.{length}
 use borrow.Rule.Slice.PartMut.{same-len-mid}
 use Rattle.ground.specs.Chunks.{chunks}
 use Rattle.ground.specs.declared.Counted.the-variants.{Count}
-use Rattle.ground.proofs.Chunks.{chunk-turn, chunk-end}
+use Rattle.ground.proofs.Chunks.{chunks-next, chunks-end}
 use Rattle.ground.proofs.Front.{front}
 use Rattle.ts.specs.Packets.{count, packet}
 use Rattle.ts.proofs.Packets.{packets-each, lent-chunk}
@@ -93,7 +93,7 @@ loop-again c =
       e .ensures,
       l .inv .2,
       same-len-mid (188 * l .i) k (l .out) (d .last .1 .0) (d .kept .1 .0) ∙ l .inv .3,
-      chunk-turn (λ (j : ℕ) (c : List ℕ). packet c) 187 188 (e .result) (l .i) k s (a .out .now) (l .out) (d .last .1 .0) (packets-each (e .result) s) h (omega arith) (l .inv .4)
+      chunks-next (λ (j : ℕ) (c : List ℕ). packet c) 187 188 (e .result) (l .i) k s (a .out .now) (l .out) (d .last .1 .0) (packets-each (e .result) s) h (omega arith) (l .inv .4)
           (d .ensures ∙ ap packet (lent-chunk s (187 * l .i) (f .result) from (f .ensures))),
     )
 
@@ -109,7 +109,7 @@ returns-2 c =
     let e = c .before .before .before .packets-for in
     let a = c .before .before .before .before .before .before .args in
     let s = a .payload .now in
-    let w = chunk-end (λ (j : ℕ) (c : List ℕ). packet c) 187 188 (e .result) (l .i) s (a .out .now) (l .out) (packets-each (e .result) s) (omega arith) (l .inv .4) in
+    let w = chunks-end (λ (j : ℕ) (c : List ℕ). packet c) 187 188 (e .result) (l .i) s (a .out .now) (l .out) (packets-each (e .result) s) (omega arith) (l .inv .4) in
     rw (packetize-accepted s (a .out .now) (e .result) (e .ensures) (l .inv .2)) (ap (λ (n : ℕ). Count (188 * n)) (e .ensures), rw (e .ensures) at w)
 
 pub ts-packetize-spec : {M : Type 1} → statement M

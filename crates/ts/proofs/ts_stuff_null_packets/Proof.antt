@@ -4,7 +4,7 @@ use Prim.Native.Nat.{_*_, _-_, _≤_, max}
 use native.Mathlib.Omega.{arith}
 use lib.ListN.{length}
 use Rattle.ground.specs.declared.Counted.the-variants.{Count}
-use Rattle.ts.proofs.Numbers.{stuff-beyond, stuff-ragged, stuff-there, stuff-short, stuff-accepted}
+use Rattle.ts.proofs.Numbers.{stuff-beyond, stuff-ragged, stuff-short, stuff-accepted}
 use Rattle.ts.proofs.Stuffing.{stuffed-part, stuffed-none}
 use borrow.Author.Needs.{needs}
 use Rattle.ts.proofs.ts_stuff_null_packets.Statement.{statement}
@@ -21,10 +21,10 @@ returns-3 c =
     let a = c .before .before .before .before .args in
     let m = c .before .if2 .left in
     let y : a .used ≡ max (a .used) (188 * a .target) = omega arith in
-    rw (stuff-there (a .used) (a .target) (a .ts .now) (c .before .before .if1 .left) m (c .if3 .taken)) (ap Count y, stuffed-none (a .used) (a .target) (a .ts .now) m (c .if3 .taken))
+    rw (stuff-accepted (a .used) (a .target) (a .ts .now) (c .before .before .if1 .left) m (omega arith)) (ap Count y, stuffed-none (a .used) (a .target) (a .ts .now) m (c .if3 .taken))
 
 returns-4 : tie.Need-returns-4
-returns-4 c = let a = c .before .before .before .before .before .args in rw (stuff-short (a .used) (a .target) (a .ts .now) (c .before .before .before .if1 .left) (c .before .before .if2 .left) (c .before .if3 .left) (omega arith)) (refl, refl)
+returns-4 c = let a = c .before .before .before .before .before .args in rw (stuff-short (a .used) (a .target) (a .ts .now) (c .before .before .before .if1 .left) (c .before .before .if2 .left) (omega arith)) (refl, refl)
 
 mul-end : tie.Need-mul-end
 mul-end c = search needs
@@ -53,7 +53,7 @@ returns-5 c =
     let p = c .before .before .put-null-packets in
     let f : 188 * a .target ≤ length (a .ts .now) = omega arith in
     let y : 188 * a .target ≡ max (a .used) (188 * a .target) = omega arith in
-    rw (stuff-accepted (a .used) (a .target) (a .ts .now) u m t f) (ap Count y, stuffed-part (a .used) (a .target) (188 * a .target - a .used) (a .ts .now) (p .last .0) m t f refl (p .ensures))
+    rw (stuff-accepted (a .used) (a .target) (a .ts .now) u m f) (ap Count y, stuffed-part (a .used) (a .target) (188 * a .target - a .used) (a .ts .now) (p .last .0) m t f refl (p .ensures))
 
 pub ts-stuff-null-packets-spec : {M : Type 1} → statement M
 ts-stuff-null-packets-spec =

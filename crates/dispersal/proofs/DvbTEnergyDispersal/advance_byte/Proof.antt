@@ -2,14 +2,13 @@
 use mathlib.Core.Path.{_≡_, sym, ap, _∙_, subst}
 use Prim.Native.Nat.{ℕ, _-_, _%_, _<_, _^_}
 use borrow.Author.Needs.{needs}
-use Rattle.dispersal.specs.Register.{after}
-use Rattle.dispersal.proofs.Register.{next-lt}
-use Rattle.dispersal.proofs.Turns.{after-left, after-end}
+use Rattle.dispersal.specs.Register.{steps}
+use Rattle.dispersal.proofs.Register.{step-lt, steps-next, steps-end}
 use Rattle.dispersal.proofs.DvbTEnergyDispersal.advance_byte.Statement.{statement}
 use Rattle.dispersal.proofs.DvbTEnergyDispersal.advance_byte.Tie as tie
 
 abbrev Inv-loop : tie.InvT-loop
-Inv-loop reg₀ left₀ reg left = (reg < 2 ^ 15) × (after left reg ≡ after 8 reg₀)
+Inv-loop reg₀ left₀ reg left = (reg < 2 ^ 15) × (steps left reg ≡ steps 8 reg₀)
 
 abbrev μ-loop : tie.MeasureT-loop
 μ-loop reg₀ left₀ reg left = left
@@ -17,8 +16,8 @@ abbrev μ-loop : tie.MeasureT-loop
 loop-holds : tie.Need-loop-holds Inv-loop μ-loop
 loop-holds c = search needs
 
-stepped-requires : tie.Need-stepped-requires Inv-loop μ-loop
-stepped-requires c κs = search needs
+step-requires : tie.Need-step-requires Inv-loop μ-loop
+step-requires c κs = search needs
 
 sub-left : tie.Need-sub-left Inv-loop μ-loop
 sub-left c = search needs
@@ -29,12 +28,12 @@ loop-less c = search needs
 loop-again : tie.Need-loop-again Inv-loop μ-loop
 loop-again c =
     let l = c .before .before .loop in
-    let e = c .stepped .ensures in
-    let q : ℕ = after 8 (c .before .before .before .before .args .self .reg % 2 ^ 15) in
-    (subst (λ (r : ℕ). r < 2 ^ 15) (sym e) (next-lt (l .reg) (l .inv .0)), ap (after (l .left - 1)) e ∙ after-left (l .left) (l .reg) q (c .before .loop-test .taken) (l .inv .1))
+    let e = c .step .ensures in
+    let q : ℕ = steps 8 (c .before .before .before .before .args .self .reg % 2 ^ 15) in
+    (subst (λ (r : ℕ). r < 2 ^ 15) (sym e) (step-lt (l .reg) (l .inv .0)), ap (steps (l .left - 1)) e ∙ steps-next (l .left) (l .reg) q (c .before .loop-test .taken) (l .inv .1))
 
 returns : tie.Need-returns Inv-loop μ-loop
-returns c = let l = c .before .loop in after-end (l .left) (l .reg) (after 8 (c .before .before .before .args .self .reg % 2 ^ 15)) (c .loop-test .left) (l .inv .1)
+returns c = let l = c .before .loop in steps-end (l .left) (l .reg) (steps 8 (c .before .before .before .args .self .reg % 2 ^ 15)) (c .loop-test .left) (l .inv .1)
 
 pub advance-byte-spec : {M : Type 1} → statement M
-advance-byte-spec = tie.close (tie.spec Inv-loop μ-loop loop-holds stepped-requires sub-left loop-less loop-again returns)
+advance-byte-spec = tie.close (tie.spec Inv-loop μ-loop loop-holds step-requires sub-left loop-less loop-again returns)

@@ -1,10 +1,6 @@
 -- `DvbTEnergyDispersal::feed_into` meets its contract: the copy is whitened where it stands. Assumes nothing.
 use mathlib.Core.Path.{ap, _∙_}
-use mathlib.Core.List.{List}
-use Prim.Native.Nat.{ℕ, _*_}
-use lib.ListN.{length}
-use Rattle.dispersal.specs.Register.{after, whitened}
-use Rattle.dispersal.specs.Whitener.{held}
+use Rattle.dispersal.specs.Whitener.{feedInPlaceAnswer, feedInPlaceLeaves}
 use borrow.Author.Needs.{needs}
 use Rattle.dispersal.proofs.DvbTEnergyDispersal.feed_into.Statement.{statement}
 use Rattle.dispersal.proofs.DvbTEnergyDispersal.feed_into.Tie as tie
@@ -22,8 +18,8 @@ returns : tie.Need-returns
 returns c =
     let f = c .before .before .feed-in-place in
     let e = c .before .before .before .before .before .before .copy .ensures in
-    let r : ℕ = held (c .before .before .before .before .before .before .before .before .before .before .args .self) in
-    (f .ensures .0 ∙ ap (λ (l : List ℕ). after (8 * length l) r) e, f .ensures .1 ∙ ap (whitened r) e)
+    let d = c .before .before .before .before .before .before .before .before .before .before .args .self in
+    (f .ensures .0 ∙ ap (feedInPlaceAnswer d) e, f .ensures .1 ∙ ap (feedInPlaceLeaves d) e)
 
 pub feed-into-spec : {M : Type 1} → statement M
 feed-into-spec = tie.close (tie.spec copy-requires feed-in-place-requires same-length returns)

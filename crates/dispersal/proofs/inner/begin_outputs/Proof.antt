@@ -1,6 +1,6 @@
 -- `dispersal::inner::begin_outputs` meets its contract: zeros that are whitened are the outputs. Assumes nothing.
 use lib.ListN.{length}
-use Rattle.dispersal.proofs.Turns.{stream-begins}
+use Rattle.dispersal.proofs.Whitening.{stream-begins}
 use borrow.Author.Needs.{needs}
 use Rattle.dispersal.proofs.inner.begin_outputs.Statement.{statement}
 use Rattle.dispersal.proofs.inner.begin_outputs.Tie as tie

@@ -4,7 +4,7 @@ use Prim.Native.Nat.{ℕ}
 use lib.Seq.{length-take-le}
 use Rattle.dispersal.specs.Register.{start}
 use Rattle.dispersal.specs.Inner.{stream}
-use Rattle.dispersal.proofs.Turns.{stream-part-length, stream-part-begun}
+use Rattle.dispersal.proofs.Streams.{stream-part-length, stream-part-begun}
 use borrow.Author.Needs.{needs}
 use Rattle.dispersal.proofs.inner.fill_outputs.Statement.{statement}
 use Rattle.dispersal.proofs.inner.fill_outputs.Tie as tie

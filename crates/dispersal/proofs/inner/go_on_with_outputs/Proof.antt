@@ -1,12 +1,12 @@
--- `dispersal::inner::go_on_with_outputs` meets its contract: the stretch is filled on from its first 120 bytes. Assumes nothing.
+-- `dispersal::inner::go_on_with_outputs` meets its contract: the stream is filled on from its first 120 bytes. Assumes nothing.
 use mathlib.Core.Path.{_≡_, refl}
 use Prim.Native.Nat.{_-_, _≤_, _<_}
 use native.Mathlib.Omega.{arith}
 use lib.ListN.{length, length-set}
 use Rattle.ground.proofs.Front.{front}
-use Rattle.dispersal.specs.Register.{start, outputs}
+use Rattle.dispersal.specs.Register.{start}
 use Rattle.dispersal.specs.Inner.{stream}
-use Rattle.dispersal.proofs.Turns.{stream-turn, stream-begun, stream-end}
+use Rattle.dispersal.proofs.Streams.{stream-next, stream-begun, stream-end}
 use borrow.Author.Needs.{needs}
 use Rattle.dispersal.proofs.inner.go_on_with_outputs.Statement.{statement}
 use Rattle.dispersal.proofs.inner.go_on_with_outputs.Tie as tie
@@ -46,7 +46,7 @@ loop-again c =
     let l = c .before .before .before .loop in
     let s = c .before .before .before .before .args .outputs .now in
     let h : l .i < length s = omega arith in
-    (omega arith, omega arith, simp length-set (l .inv .2), stream-turn (length s) s (l .outputs) (l .i) refl (l .inv .0) h (l .inv .3))
+    (omega arith, omega arith, simp length-set (l .inv .2), stream-next (length s) s (l .outputs) (l .i) refl (l .inv .0) h (l .inv .3))
 
 same-length : tie.Need-same-length Inv-loop μ-loop
 same-length c = search needs

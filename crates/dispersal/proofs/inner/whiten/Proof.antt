@@ -4,9 +4,8 @@ use Prim.Native.Nat.{_-_, _≤_}
 use native.Mathlib.Omega.{arith}
 use lib.ListN.{length, length-set}
 use Rattle.ground.proofs.Front.{front}
-use Rattle.dispersal.specs.Register.{outputs}
 use Rattle.dispersal.specs.Inner.{xored}
-use Rattle.dispersal.proofs.Turns.{xored-turn, xored-end}
+use Rattle.dispersal.proofs.Whitening.{xored-next, xored-end}
 use borrow.Author.Needs.{needs}
 use Rattle.dispersal.proofs.inner.whiten.Statement.{statement}
 use Rattle.dispersal.proofs.inner.whiten.Tie as tie
@@ -39,7 +38,7 @@ loop-again : tie.Need-loop-again Inv-loop μ-loop
 loop-again c =
     let l = c .before .before .before .loop in
     let a = c .before .before .before .before .args in
-    (omega arith, simp length-set (l .inv .1), xored-turn (a .outputs .now) (a .bytes .now) (l .bytes) (l .i) (omega arith) (omega arith) (l .inv .2))
+    (omega arith, simp length-set (l .inv .1), xored-next (a .outputs .now) (a .bytes .now) (l .bytes) (l .i) (omega arith) (omega arith) (l .inv .2))
 
 same-length : tie.Need-same-length Inv-loop μ-loop
 same-length c = search needs

@@ -1,6 +1,6 @@
--- `report::Reader::close` meets its contract: the end stands at the front of an output that has the room. Assumes nothing.
+-- `report::Reader::close` meets its contract: the end stands at the front of an output with room. Assumes nothing.
 use Rattle.report.specs.Stream.{closeText}
-use Rattle.report.proofs.Rooms.{text-refused, text-written}
+use Rattle.report.proofs.Calls.{text-refused, text-written}
 use borrow.Author.Needs.{needs}
 use Rattle.report.proofs.Reader.close.Statement.{statement}
 use Rattle.report.proofs.Reader.close.Tie as tie

@@ -6,7 +6,7 @@ use native.Mathlib.Omega.{arith}
 use lib.ListN.{length, take, replicate, length-replicate}
 use lib.Seq.{sets, take-all}
 use Rattle.report.specs.Reading.{bitsOf}
-use Rattle.report.proofs.Writing.{sets-whole}
+use Rattle.report.proofs.Texts.{sets-whole}
 use Rattle.report.proofs.Digits.{digit-at, bits-turn, bits-length}
 use borrow.Author.Needs.{needs}
 use Rattle.report.proofs.reading.bits_of.Statement.{statement}

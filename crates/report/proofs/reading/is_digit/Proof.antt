@@ -1,4 +1,4 @@
--- `report::reading::is_digit` meets its contract: the tests part the characters as the definition does. Assumes nothing.
+-- `report::reading::is_digit` meets its contract: the tests are those of the definition. Assumes nothing.
 use Rattle.report.proofs.Digits.{digit-below, digit-decimal, digit-between, digit-letter}
 use Rattle.report.proofs.reading.is_digit.Statement.{statement}
 use Rattle.report.proofs.reading.is_digit.Tie as tie

@@ -1,8 +1,8 @@
--- `report::stream::put_close` meets its contract: an open line ends, and the closing line stands behind it. Assumes nothing.
+-- `report::stream::put_close` meets its contract: the closing line stands behind an open line. Assumes nothing.
 use native.Mathlib.Omega.{arith}
 use borrow.Author.Tests.{eq-eqb, ne-eqb}
-use Rattle.report.specs.Stream.{ended, endText, closeText}
-use Rattle.report.proofs.Writing.{put-then}
+use Rattle.report.specs.Stream.{closeText}
+use Rattle.report.proofs.Texts.{put-none, put-then}
 use borrow.Author.Needs.{needs}
 use Rattle.report.proofs.stream.put_close.Statement.{statement}
 use Rattle.report.proofs.stream.put_close.Tie as tie
@@ -19,6 +19,9 @@ returns c =
     let p = c .before .before .put-closing .ensures in
     simp (eq-eqb _ _ (c .before .before .before .before .if1 .taken)) (p .0, omega (arith, p .1))
 
+line-of-requires : tie.Need-line-of-requires
+line-of-requires c κs = search needs
+
 end-line-requires : tie.Need-end-line-requires
 end-line-requires c κs = search needs
 
@@ -29,13 +32,13 @@ same-length-2 : tie.Need-same-length-2
 same-length-2 c = search needs
 
 returns-2 : tie.Need-returns-2
-unfolding closeText ended endText
+unfolding closeText
 returns-2 c =
     let p = c .before .before .put-closing2 .ensures in
     let c-line = c .before .before .before .before .before .before in
-    let e = c-line .end-line .ensures in
+    let e = rw (c-line .before .before .line-of .ensures) at (c-line .end-line .ensures) in
     simp (ne-eqb _ _ (c-line .before .before .before .if1 .left))
-    (put-then (e .written) (rw (← e .lines, ← e .refused) (p .0)), omega (arith, e .room, p .1))
+    (put-then (put-then (e .written) (put-none _ _)) (rw (← e .lines, ← e .refused) (p .0)), omega (arith, e .room, p .1))
 
 pub put-close-spec : {M : Type 1} → statement M
 put-close-spec =
@@ -44,6 +47,7 @@ put-close-spec =
     put-closing-requires
     same-length
     returns
+    line-of-requires
     end-line-requires
     put-closing-requires-2
     same-length-2

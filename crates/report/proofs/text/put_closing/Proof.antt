@@ -1,7 +1,7 @@
 -- `report::text::put_closing` meets its contract: the columns stand one behind the other. Assumes nothing.
 use native.Mathlib.Omega.{arith}
 use Rattle.report.specs.Text.{closing}
-use Rattle.report.proofs.Writing.{put-then}
+use Rattle.report.proofs.Texts.{put-then}
 use borrow.Author.Needs.{needs}
 use Rattle.report.proofs.text.put_closing.Statement.{statement}
 use Rattle.report.proofs.text.put_closing.Tie as tie

@@ -1,6 +1,6 @@
 -- `report::text::put_columns` meets its contract: the columns stand one behind the other. Assumes nothing.
 use native.Mathlib.Omega.{arith}
-use Rattle.report.proofs.Writing.{put-then}
+use Rattle.report.proofs.Texts.{put-then}
 use borrow.Author.Needs.{needs}
 use Rattle.report.proofs.text.put_columns.Statement.{statement}
 use Rattle.report.proofs.text.put_columns.Tie as tie

@@ -1,4 +1,4 @@
--- `report::text::put_decimal` meets its contract: the digits that `io` writes are those of the definition. Assumes nothing.
+-- `report::text::put_decimal` meets its contract: `io` writes the definition's digits. Assumes nothing.
 use mathlib.Core.Path.{_∙_}
 use native.Mathlib.Omega.{arith}
 use lib.ListN.{length-take}

@@ -2,7 +2,7 @@
 use mathlib.Core.List.{append-assoc}
 use native.Mathlib.Omega.{arith}
 use Rattle.report.specs.Text.{lineText}
-use Rattle.report.proofs.Writing.{put-then}
+use Rattle.report.proofs.Texts.{put-then}
 use borrow.Author.Needs.{needs}
 use Rattle.report.proofs.text.put_word.Statement.{statement}
 use Rattle.report.proofs.text.put_word.Tie as tie

@@ -1,4 +1,4 @@
--- `report::text::rate_column` meets its contract: in each case the characters that stand are those of the definition. Assumes nothing.
+-- `report::text::rate_column` meets its contract: each case has the definition's characters. Assumes nothing.
 use mathlib.Core.Path.{refl}
 use native.Mathlib.Omega.{arith}
 use Rattle.report.specs.Text.{rateText}

@@ -1,4 +1,5 @@
--- `saltkernel::frames::salt_tps_decoder_bits` meets its contract: the numbers say what the library function answers. Assumes nothing.
+-- `saltkernel::frames::salt_tps_decoder_bits` meets its contract: the numbers say what the library function answers.
+-- Assumes nothing.
 use Rattle.saltkernel.specs.Numbers.{Says}
 use Rattle.saltkernel.proofs.Numbers.{says-equal}
 use borrow.Author.Needs.{needs}

@@ -1,6 +1,7 @@
--- `saltkernel::frames::salt_tps_decoder_feed_in_place` meets its contract: the numbers say what the library function answers, and the parts are left as it leaves them. Assumes nothing.
+-- `saltkernel::frames::salt_tps_decoder_feed_in_place` meets its contract: the numbers say what the library function
+-- answers, and the parts are left as it leaves them. Assumes nothing.
 use mathlib.Core.Path.{ap}
-use Rattle.tps.specs.declared.Fed.{Fed}
+use Rattle.tps.specs.declared.receiver.Fed.{Fed}
 use Rattle.saltkernel.specs.Frames.{SaysBit}
 use Rattle.saltkernel.proofs.Numbers.{says-equal}
 use borrow.Author.Needs.{needs}

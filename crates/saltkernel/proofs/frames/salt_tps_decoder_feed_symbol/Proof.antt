@@ -1,4 +1,5 @@
--- `saltkernel::frames::salt_tps_decoder_feed_symbol` meets its contract: the numbers say what the library function answers. Assumes nothing.
+-- `saltkernel::frames::salt_tps_decoder_feed_symbol` meets its contract: the numbers say what the library function
+-- answers. Assumes nothing.
 use mathlib.Core.Path.{refl, sym, ap}
 use Rattle.tps.specs.Receive.{bitNumber, bitIn}
 use Rattle.saltkernel.specs.Frames.{SaysFed}
@@ -19,13 +20,13 @@ enum-known-answer-2 c = search needs
 returns : tie.Need-returns
 returns c =
     let f = c .before .before .before .before .feed-symbol in
-    let known = c .before .before .answer .given .1 in
+    let known = c .before .answer .given .1 in
     says-equal SaysFed _ (f .result) _ (f .ensures) (record { says-number = sym (ap bitNumber known); says-bit = sym (ap bitIn known); says-decoder = refl })
 
 returns-2 : tie.Need-returns-2
 returns-2 c =
     let f = c .before .before .before .before .feed-symbol in
-    let known = c .before .before .answer2 .given .1 in
+    let known = c .before .answer2 .given .1 in
     says-equal SaysFed _ (f .result) _ (f .ensures) (record { says-number = sym (ap bitNumber known); says-bit = sym (ap bitIn known); says-decoder = refl })
 
 pub salt-tps-decoder-feed-symbol-spec : {M : Type 1} → statement M

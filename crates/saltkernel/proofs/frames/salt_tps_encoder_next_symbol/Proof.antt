@@ -1,4 +1,5 @@
--- `saltkernel::frames::salt_tps_encoder_next_symbol` meets its contract: the numbers say what the library function answers. Assumes nothing.
+-- `saltkernel::frames::salt_tps_encoder_next_symbol` meets its contract: the numbers say what the library function
+-- answers. Assumes nothing.
 use mathlib.Core.Path.{refl}
 use Rattle.saltkernel.specs.Frames.{SaysSent}
 use Rattle.saltkernel.proofs.Numbers.{says-equal}

@@ -16,7 +16,7 @@ returns : tie.Need-returns
 returns c = says-equal SaysBoosted _ _ _ (sym (c .before .answer .given .1)) (record { says-number = refl; says-value = refl })
 
 returns-2 : tie.Need-returns-2
-unfolding Rattle.carriers.specs.Pilots.null
+unfolding Rattle.ground.specs.Cells.plusZero
 returns-2 c = says-equal SaysBoosted _ _ _ (sym (c .before .answer2 .given .1)) (record { says-number = refl; says-value = refl })
 
 pub boosted-numbers-of-spec : {M : Type 1} → statement M

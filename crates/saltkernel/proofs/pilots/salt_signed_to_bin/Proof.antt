@@ -4,8 +4,7 @@ use lib.IntN.{ℤ}
 use mir.Syntax.{w16}
 use mir.ValLaws.{toZ-ofZ}
 use Rattle.carriers.specs.Mode.{mode2k}
-use Rattle.carriers.specs.Count.{modulo, signedNo}
-use Rattle.carriers.specs.Answers.{asBin}
+use Rattle.carriers.specs.Answers.{signedToBinAnswer}
 use Rattle.saltkernel.specs.Carriers.{SaysBin}
 use Rattle.saltkernel.proofs.Numbers.{says-equal}
 use borrow.Author.Needs.{needs}
@@ -22,7 +21,7 @@ returns : tie.Need-returns
 returns c =
     let f = c .before .signed-to-bin in
     let read = toZ-ofZ w16 (c .before .before .args .signed) (c .before .before .fits .signed) in
-    says-equal SaysBin (c .bin-numbers-of .result) (f .result) _ (f .ensures ∙ ap (λ (z : ℤ). asBin (signedNo mode2k z) (modulo mode2k z)) read) (c .bin-numbers-of .ensures)
+    says-equal SaysBin (c .bin-numbers-of .result) (f .result) _ (f .ensures ∙ ap (signedToBinAnswer mode2k) read) (c .bin-numbers-of .ensures)
 
 pub salt-signed-to-bin-spec : {M : Type 1} → statement M
 salt-signed-to-bin-spec =

@@ -1,17 +1,33 @@
--- `saltkernel::reports::reserved_answer` meets its contract: the test is that of the definition. Assumes nothing.
+-- `saltkernel::reports::reserved_answer` meets its contract: the tests are those of the definition. Assumes nothing.
+use mathlib.Core.Path.{sym, ap, ap₂, _∙_}
+use mathlib.Core.Bool.{_&&_}
 use borrow.Author.Tests.{eq-eqb, ne-eqb}
+use Rattle.saltkernel.specs.Words.{refused}
 use borrow.Author.Needs.{needs}
 use Rattle.saltkernel.proofs.reports.reserved_answer.Statement.{statement}
 use Rattle.saltkernel.proofs.reports.reserved_answer.Tie as tie
 
-reserved-code-requires : tie.Need-reserved-code-requires
-reserved-code-requires c κs = search needs
-
 returns : tie.Need-returns
-returns c = simp (eq-eqb _ _ (c .before .before .if1 .taken), c .reserved-code .ensures)
+returns c = simp (ne-eqb _ _ (c .if1 .taken))
+
+word-of-requires : tie.Need-word-of-requires
+word-of-requires c κs = search needs
+
+enum-told : tie.Need-enum-told
+enum-told c = search needs
+
+enum-told-2 : tie.Need-enum-told-2
+enum-told-2 c = search needs
 
 returns-2 : tie.Need-returns-2
-returns-2 c = simp (ne-eqb _ _ (c .if1 .left))
+returns-2 c =
+    let w = c .before .before in
+    sym (ap₂ _&&_ (eq-eqb _ 0 (w .before .before .if1 .left)) (ap refused (sym (w .word-of .ensures) ∙ c .enum-told2 .given .1)))
+
+returns-3 : tie.Need-returns-3
+returns-3 c =
+    let w = c .before .before in
+    sym (ap₂ _&&_ (eq-eqb _ 0 (w .before .before .if1 .left)) (ap refused (sym (w .word-of .ensures) ∙ c .enum-told .given .1)))
 
 pub reserved-answer-spec : {M : Type 1} → statement M
-reserved-answer-spec = tie.close (tie.spec reserved-code-requires returns returns-2)
+reserved-answer-spec = tie.close (tie.spec returns word-of-requires enum-told enum-told-2 returns-2 returns-3)

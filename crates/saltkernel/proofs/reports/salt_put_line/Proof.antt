@@ -1,10 +1,11 @@
--- `saltkernel::reports::salt_put_line` meets its contract: the tests are those of the number, and behind them the numbers say what the library function answers. Assumes nothing.
+-- `saltkernel::reports::salt_put_line` meets its contract: the tests are those of the number, and behind them the
+-- numbers are the library's answer. Assumes nothing.
 use mathlib.Core.Path.{refl, sym, ap, _∙_}
 use lib.ListN.{length}
 use Rattle.ground.specs.Answer.{written}
-use Rattle.tps.specs.declared.Unpacked.{Unpacked}
+use Rattle.tps.specs.declared.word.Unpacked.{Unpacked}
 use Rattle.report.specs.Text.{lineText}
-use Rattle.report.specs.Stream.{lineRoom, textAnswer, textLeaves}
+use Rattle.report.specs.Calls.{lineRoom, lineAnswer, lineLeaves}
 use Rattle.saltkernel.specs.Numbers.{Says}
 use Rattle.saltkernel.specs.Reports.{answerIn, reservedIn}
 use Rattle.saltkernel.proofs.Numbers.{says-equal}
@@ -50,11 +51,11 @@ returns-3 c =
     let o = z .out .now in (
       says-equal Says _ (f .result) _
           (f .ensures .0
-          ∙ ap (λ (a : Unpacked). textAnswer lineRoom (lineText (z .number) a) o) (known .ensures)
+          ∙ ap (λ (a : Unpacked). lineAnswer (z .number) a o) (known .ensures)
           ∙ codes-answer lineRoom (reservedIn (z .answer)) o no (length text))
           (c .numbers-of .ensures),
       f .ensures .1
-          ∙ ap (λ (a : Unpacked). textLeaves lineRoom (lineText (z .number) a) o) (known .ensures)
+          ∙ ap (λ (a : Unpacked). lineLeaves (z .number) a o) (known .ensures)
           ∙ codes-leave lineRoom (reservedIn (z .answer)) o no (written text o),
     )
 

@@ -1,4 +1,4 @@
--- `saltkernel::reports::salt_reader_close` meets its contract: the numbers say what the library function answers. Assumes nothing.
+-- `saltkernel::reports::salt_reader_close` meets its contract: the numbers are the library's answer. Assumes nothing.
 use Rattle.saltkernel.specs.Numbers.{Says}
 use Rattle.saltkernel.proofs.Numbers.{says-equal}
 use borrow.Author.Needs.{needs}

@@ -1,4 +1,4 @@
--- `saltkernel::reports::salt_reader_feed` meets its contract: the numbers say what the library function answers. Assumes nothing.
+-- `saltkernel::reports::salt_reader_feed` meets its contract: the numbers are the library's answer. Assumes nothing.
 use mathlib.Core.Path.{refl}
 use Rattle.saltkernel.specs.Reports.{SaysReaderFed}
 use Rattle.saltkernel.proofs.Numbers.{says-equal}

@@ -1,21 +1,15 @@
--- `saltkernel::words::codes_of` meets its contract: each field is written by its definition. Assumes nothing.
+-- `saltkernel::words::codes_of` meets its contract: the codes are the library's. Assumes nothing.
+use mathlib.Core.Path.{ap}
+use Rattle.saltkernel.specs.Words.{codesFor}
 use borrow.Author.Needs.{needs}
 use Rattle.saltkernel.proofs.words.codes_of.Statement.{statement}
 use Rattle.saltkernel.proofs.words.codes_of.Tie as tie
 
-constellation-number-requires : tie.Need-constellation-number-requires
-constellation-number-requires c κs = search needs
-
-rate-number-requires : tie.Need-rate-number-requires
-rate-number-requires c κs = search needs
-
-guard-number-requires : tie.Need-guard-number-requires
-guard-number-requires c κs = search needs
+codes-of-requires : tie.Need-codes-of-requires
+codes-of-requires c κs = search needs
 
 returns : tie.Need-returns
-returns c = simp (c .before .before .constellation-number .ensures, c .before .rate-number .ensures, c .guard-number .ensures)
+returns c = ap codesFor (c .codes-of .ensures)
 
 pub codes-of-spec : {M : Type 1} → statement M
-codes-of-spec =
-    tie.close
-    (tie.spec constellation-number-requires rate-number-requires guard-number-requires returns)
+codes-of-spec = tie.close (tie.spec codes-of-requires returns)

@@ -11,13 +11,13 @@ returns c =
     let a = c .before .before .args in
     sym (stepped-refused (a .self) (a .journal .now) 2 (step-short _ _ (c .if1 .taken)))
 
-at-most-68-requires : tie.Need-at-most-68-requires
-at-most-68-requires c κs = search needs
+standing-count-requires : tie.Need-standing-count-requires
+standing-count-requires c κs = search needs
 
 returns-2 : tie.Need-returns-2
 returns-2 c =
     let a = c .before .before .before .before .args in
-    stepped-none (a .self) (a .journal .now) (c .before .before .if1 .left) (c .before .at-most-68 .ensures) (c .if2 .taken)
+    stepped-none (a .self) (a .journal .now) (c .before .before .if1 .left) (c .before .standing-count .ensures) (c .if2 .taken)
 
 sub-left : tie.Need-sub-left
 sub-left c = search needs
@@ -32,7 +32,7 @@ returns-3 : tie.Need-returns-3
 returns-3 c =
     let a = c .before .before .before .before .before .before .before .args in
     stepped-done (a .self) (a .journal .now)
-    (c .before .before .before .before .before .if1 .left) (c .before .before .before .before .at-most-68 .ensures) (c .before .before .before .if2 .left)
+    (c .before .before .before .before .before .if1 .left) (c .before .before .before .before .standing-count .ensures) (c .before .before .before .if2 .left)
     (c .before .held-bits .ensures) (c .cells-before .ensures)
 
 pub step-back-spec : {M : Type 1} → statement M
@@ -40,7 +40,7 @@ step-back-spec =
     tie.close
     (tie.spec
     returns
-    at-most-68-requires
+    standing-count-requires
     returns-2
     sub-left
     held-bits-requires

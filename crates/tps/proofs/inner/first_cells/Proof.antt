@@ -5,7 +5,7 @@ use native.Mathlib.Omega.{arith}
 use lib.ListN.{length}
 use Rattle.ground.proofs.Front.{front, front-next, front-full}
 use Rattle.tps.specs.Receive.{firstCells, noCell}
-use Rattle.tps.proofs.Received.{cells-length, cells-at}
+use Rattle.tps.proofs.FirstCells.{cells-length, cells-at}
 use borrow.Author.Needs.{needs}
 use Rattle.tps.proofs.inner.first_cells.Statement.{statement}
 use Rattle.tps.proofs.inner.first_cells.Tie as tie

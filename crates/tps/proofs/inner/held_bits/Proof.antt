@@ -6,7 +6,7 @@ use Prim.Native.Nat.{ℕ, _-_, _≤_, min}
 use native.Mathlib.Omega.{arith}
 use lib.ListN.{length, getD, set}
 use Rattle.tps.specs.Receive.{heldBits}
-use Rattle.tps.proofs.Holding.{held-turn}
+use Rattle.tps.proofs.StandingBits.{standing-bit-next}
 use borrow.Author.Needs.{needs}
 use Rattle.tps.proofs.inner.held_bits.Statement.{statement}
 use Rattle.tps.proofs.inner.held_bits.Tie as tie
@@ -39,7 +39,7 @@ loop-again c =
     let bits = c .before .before .before .args .t1 in
     let z : length bits ≡ 68 = search needs in
     let v : c .if1 .held ≡ min 1 (getD bits (l .i) 0) = ⊎-elim (λ w. omega arith) (λ w. omega arith) (c .if1 .came) in
-    (omega arith, ap₂ (λ (x : List ℕ) (y : ℕ). set x (l .i) y) (l .inv .1) v ∙ held-turn bits (l .i) z (omega arith))
+    (omega arith, ap₂ (λ (x : List ℕ) (y : ℕ). set x (l .i) y) (l .inv .1) v ∙ standing-bit-next bits (l .i) z (omega arith))
 
 returns : tie.Need-returns Inv-loop μ-loop
 returns c =

@@ -3,9 +3,9 @@ use mathlib.Core.Path.{_≡_, sym, ap, _∙_}
 use Prim.Native.Nat.{ℕ, _≤_, _<_, _-_}
 use native.Mathlib.Numerals.{add-one}
 use native.Mathlib.Omega.{arith}
-use Rattle.carriers.specs.Pilots.{null}
+use Rattle.ground.specs.Cells.{plusZero}
 use Rattle.tps.specs.Receive.{firstCells, noCell, product, correlation}
-use Rattle.tps.proofs.Received.{cells-at}
+use Rattle.tps.proofs.FirstCells.{cells-at}
 use borrow.Author.Needs.{needs}
 use Rattle.tps.proofs.lent.correlate.Statement.{statement}
 use Rattle.tps.proofs.lent.correlate.Tie as tie
@@ -17,7 +17,7 @@ abbrev μ-loop : tie.MeasureT-loop
 μ-loop cells prev sum₀ k₀ sum k = 17 - k
 
 loop-holds : tie.Need-loop-holds Inv-loop μ-loop
-unfolding correlation null
+unfolding correlation plusZero
 loop-holds c = search needs
 
 cell-at-requires : tie.Need-cell-at-requires Inv-loop μ-loop

@@ -1,7 +1,7 @@
--- `tps::lent::feed_symbol` meets its contract: the tests give the number, and the callees the bit and the cells. Assumes nothing.
+-- `tps::lent::feed_symbol` meets its contract: the tests give the number, and the callees the bit and the cells.
+-- Assumes nothing.
 use Rattle.tps.specs.Lent.{lentDecoder}
-use Rattle.tps.proofs.Received.{feed-length, feed-full}
-use Rattle.tps.proofs.Held.{lent-bit}
+use Rattle.tps.proofs.Receiving.{feed-length, feed-full, lent-bit}
 use borrow.Author.Needs.{needs}
 use Rattle.tps.proofs.lent.feed_symbol.Statement.{statement}
 use Rattle.tps.proofs.lent.feed_symbol.Tie as tie

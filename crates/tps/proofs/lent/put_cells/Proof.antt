@@ -1,75 +1,51 @@
--- `tps::lent::put_cells` meets its contract: the cells are written from the front. Assumes nothing.
-use mathlib.Core.Path.{_≡_, refl, sym, ap, _∙_}
-use Prim.Native.Nat.{_≤_, _-_, _+_, _*_}
+-- `tps::lent::put_cells` meets its contract: the first 34 floats are the first 17 cells, in a row. Assumes nothing.
+use mathlib.Core.Path.{sym, ap, _∙_}
 use native.Mathlib.Omega.{arith}
 use lib.ListN.{length}
-use Rattle.ground.proofs.Front.{front, front-length, front-whole}
-use Rattle.carriers.specs.Cells.{flat}
-use Rattle.carriers.proofs.Cells.{cell-next, flat-length}
-use Rattle.tps.specs.Receive.{firstCells, noCell}
-use Rattle.tps.proofs.Received.{cells-length, cells-at}
+use lib.Seq.{length-take-le}
+use Rattle.ground.specs.Cells.{flat}
+use Rattle.ground.proofs.Answers.{written-front}
+use Rattle.tps.specs.Receive.{firstCells}
+use Rattle.tps.proofs.FirstCells.{cells-taken}
 use borrow.Author.Needs.{needs}
 use Rattle.tps.proofs.lent.put_cells.Statement.{statement}
 use Rattle.tps.proofs.lent.put_cells.Tie as tie
 
-abbrev Inv-loop : tie.InvT-loop
-Inv-loop cells prev₀ k₀ prev k = (k ≤ 17) × (length prev ≡ length prev₀) × (prev ≡ front (flat (firstCells 17 cells)) (2 * k) prev₀)
+slice-aggregate-copy-cells : tie.Need-slice-aggregate-copy-cells
+slice-aggregate-copy-cells c =
+    let z = c .before .before .before in sym (length-take-le 34 (z .args .cells .now) (z .pre .0))
 
-abbrev μ-loop : tie.MeasureT-loop
-μ-loop cells prev₀ k₀ prev k = 17 - k
+slice-relend-prefix-copy-cells : tie.Need-slice-relend-prefix-copy-cells
+slice-relend-prefix-copy-cells c = search needs
 
-loop-holds : tie.Need-loop-holds Inv-loop μ-loop
-loop-holds c = (omega arith, refl, refl)
+slice-aggregate-copy-cells-2 : tie.Need-slice-aggregate-copy-cells-2
+slice-aggregate-copy-cells-2 c =
+    let z = c .before .before .before .before in sym (length-take-le 34 (z .args .prev .now) (z .pre .1))
 
-cell-at-requires : tie.Need-cell-at-requires Inv-loop μ-loop
-cell-at-requires c κs = search needs
+copy-cells-requires : tie.Need-copy-cells-requires
+copy-cells-requires c κs =
+    let z = c .before .before .before .before in
+    let n = length-take-le 34 (z .args .cells .now) (z .pre .0) in
+    let m = length-take-le 34 (z .args .prev .now) (z .pre .1) in
+    (omega arith, omega arith)
 
-put-cell-requires : tie.Need-put-cell-requires Inv-loop μ-loop
-put-cell-requires c κs = search needs
-
-add-k : tie.Need-add-k Inv-loop μ-loop
-add-k c = search needs
-
-loop-less : tie.Need-loop-less Inv-loop μ-loop
-loop-less c = search needs
-
-loop-again : tie.Need-loop-again Inv-loop μ-loop
-loop-again c =
-    let l = c .before .before .before .before .before .before .loop in
-    let z = c .before .before .before .before .before .before .before .before .before .args in
-    let s = z .cells .now in
-    let o = z .prev .now in
-    let m = firstCells 17 s in
-    let cell = c .before .before .before .cell-at in
-    let n : length m ≡ 17 = cells-length 17 s in
-    let f : length (flat m) ≡ 2 * length m = flat-length m in
-    let d = c .before .before .put-cell .ensures ∙ cell-next m o (l .prev) (l .k) noCell (cell .result) (omega arith) (omega arith) (l .inv .2)
-    (cell .ensures ∙ sym (cells-at 17 s (l .k) noCell (omega arith))) in
-    (omega arith, ap length d ∙ front-length (flat m) o (2 * (l .k + 1)) (omega arith) (omega arith), d)
-
-same-length : tie.Need-same-length Inv-loop μ-loop
+same-length : tie.Need-same-length
 same-length c = search needs
 
-returns : tie.Need-returns Inv-loop μ-loop
+returns : tie.Need-returns
 returns c =
-    let l = c .before .loop in
-    let z = c .before .before .before .before .args in
-    let m = firstCells 17 (z .cells .now) in
-    let n : length m ≡ 17 = cells-length 17 (z .cells .now) in
-    let f : length (flat m) ≡ 2 * length m = flat-length m in
-    front-whole (flat m) (z .prev .now) (l .prev) (2 * l .k) (omega (arith, c .loop-test .left)) (l .inv .2)
+    let z = c .before .before .before .before .before .before .before in
+    let s = z .args .cells .now in
+    let e = cells-taken 17 s (z .pre .0) in
+    written-front (flat (firstCells 17 s)) (z .args .prev .now) _ 34 (c .before .before .copy-cells .ensures ∙ sym e) (ap length e ∙ length-take-le 34 s (z .pre .0))
 
 pub put-cells-spec : {M : Type 1} → statement M
 put-cells-spec =
     tie.close
     (tie.spec
-    Inv-loop
-    μ-loop
-    loop-holds
-    cell-at-requires
-    put-cell-requires
-    add-k
-    loop-less
-    loop-again
+    slice-aggregate-copy-cells
+    slice-relend-prefix-copy-cells
+    slice-aggregate-copy-cells-2
+    copy-cells-requires
     same-length
     returns)

@@ -5,7 +5,7 @@ use native.Mathlib.Omega.{arith}
 use lib.ListN.{length, take, drop}
 use borrow.Rule.Slice.PartMut.{same-len-mid}
 use Rattle.ground.specs.Chunks.{chunks}
-use Rattle.ground.proofs.Chunks.{chunks-length, chunk-turn}
+use Rattle.ground.proofs.Chunks.{chunks-length, chunks-next}
 use Rattle.ground.proofs.Front.{front, front-full}
 use Rattle.ts.specs.Dispersal.{dispersedPacket, dispersed}
 use Rattle.ts.proofs.Dispersal.{dispersed-each, lent-packet, place-decides}
@@ -60,7 +60,7 @@ loop-again c =
       omega arith,
       l .inv .1,
       same-len-mid (188 * l .i) k (l .packets) (d .last .1 .1 .0) (d .kept .1 .1 .0) ∙ l .inv .2,
-      chunk-turn dispersedPacket 188 188 n (l .i) k o o (l .packets) (d .last .1 .1 .0) e h (omega arith) (l .inv .3)
+      chunks-next dispersedPacket 188 188 n (l .i) k o o (l .packets) (d .last .1 .1 .0) e h (omega arith) (l .inv .3)
           (d .ensures ∙ ap (dispersedPacket (l .i % 8)) p ∙ place-decides (l .i) (take 188 (drop (188 * l .i) o))),
     )
 

@@ -1,0 +1,66 @@
+-- A packed word with at most two of s1..s67 wrong, and s0 either, is unpacked to itself, its frame number modulo 4.
+-- Assumes nothing.
+use mathlib.Core.Path.{_≡_, sym, ap, _∙_, subst}
+use mathlib.Core.Logic.{inl}
+use mathlib.Core.List.{List}
+use Prim.Native.Nat.{ℕ, _%_, _<_, _≤_}
+use native.Mathlib.Omega.{arith}
+use lib.ListN.{length, take, drop}
+use lib.Seq.{take-at}
+use Rattle.ground.specs.Bits.{Bits}
+use Rattle.ground.specs.Digits.{digitsOf}
+use Rattle.ground.proofs.Bits.{are-bits}
+use Rattle.ground.proofs.Digits.{small-digits}
+use Rattle.bch.specs.Code.{distance, parity, encode}
+use Rattle.bch.proofs.Codeword.{encode-codeword}
+use Rattle.tps.specs.declared.word.TpsWord.{TpsWord}
+use Rattle.tps.specs.declared.word.Unpacked.{Unpacked}
+use Rattle.tps.specs.declared.word.Unpacked.the-variants.{Word}
+use Rattle.tps.specs.Codes.{constellationCode, rateCode, guardCode, codesOf, wordOf}
+use Rattle.tps.specs.Word.{fieldsOf, informationOf, wordBits, codesIn, modulo4}
+use Rattle.tps.specs.Packing.{packLeaves, UnpacksBy, Unpacks}
+use Rattle.tps.proofs.Codes.{constellation-small, rate-small, guard-small, word-of-codes}
+use Rattle.tps.proofs.Fields.{fields-bits}
+use Rattle.tps.proofs.Packing.{information-length, pack-writes}
+use Rattle.tps.proofs.Unpacking.{unpack-accepted}
+use Rattle.tps.proofs.Determined.{unpack-determined}
+
+module _ (w : TpsWord) (h : w .«cell_id» < 256) where
+  -- the information of a word says its codes, the frame number modulo 4
+  codes-back : codesIn (informationOf w) ≡ codesOf (modulo4 w)
+  codes-back =
+      simp (
+        small-digits 2 (w .«frame_number» % 4) (omega arith),
+        small-digits 2 (constellationCode (w .constellation)) (omega (arith, constellation-small (w .constellation))),
+        small-digits 3 (rateCode (w .«code_rate_hp»)) (omega (arith, rate-small (w .«code_rate_hp»))),
+        small-digits 2 (guardCode (w .guard)) (omega (arith, guard-small (w .guard))),
+        small-digits 8 (w .«cell_id») h,
+      )
+
+  -- and so it says the word
+  pub information-says : wordOf (codesIn (informationOf w)) ≡ Word (modulo4 w)
+  information-says = ap wordOf codes-back ∙ word-of-codes (modulo4 w)
+
+  module _ (b : List ℕ) (hb : Bits b) (hl : length b ≡ 68) where
+    near-word : distance (encode (informationOf w)) (drop 1 b) ≤ 2 → Unpacks b (Word (modulo4 w))
+    near-word n =
+        subst (λ (k : ℕ). UnpacksBy k b (Word (modulo4 w))) (sym (unpack-accepted b hl (are-bits b hb)))
+        (inl record {
+          word = encode (informationOf w);
+          codeword = encode-codeword (informationOf w) (fields-bits (fieldsOf (codesOf w))) (information-length w);
+          near = n;
+          says =
+              sym (ap (λ (s : List ℕ). wordOf (codesIn s)) (take-at (informationOf w) (digitsOf 14 (parity (informationOf w))) 53 (information-length w))
+              ∙ information-says);
+        })
+
+    -- of a word's bits s0..s67, at most two of s1..s67 wrong and s0 either, unpacking answers the word, its frame
+    -- number modulo 4
+    pub unpack-packed : (r : Unpacked) → distance (drop 1 (wordBits w)) (drop 1 b) ≤ 2 → Unpacks b r → r ≡ Word (modulo4 w)
+    unpack-packed r n k = unpack-determined b r (Word (modulo4 w)) k (near-word n)
+
+    -- the same of what packing leaves in an output with room for it
+    pub unpack-written : (o a : List ℕ) (r : Unpacked) → 68 ≤ length o → a ≡ packLeaves w o → distance (drop 1 (take 68 a)) (drop 1 b) ≤ 2
+        → Unpacks b r → r ≡ Word (modulo4 w)
+    unpack-written o a r room e n k =
+        unpack-packed r (subst (λ (l : List ℕ). distance (drop 1 l) (drop 1 b) ≤ 2) (ap (take 68) e ∙ pack-writes w o room) n) k

@@ -1,0 +1,78 @@
+-- The bits that a receiver holds: one more, and all 68; what a call for them answers, and what one for the word does.
+-- Assumes nothing.
+use mathlib.Core.Path.{_≡_, refl, sym, ap, ap₂, _∙_, subst}
+use mathlib.Core.List.{List, [], _∷_, _++_, map, map-append, append-nil}
+use Prim.Native.Nat.{ℕ, suc, _+_, _-_, _<_, _≤_, min}
+use native.Mathlib.Numerals.{add-one}
+use native.Mathlib.Omega.{arith}
+use lib.ListN.{length, getD, take, drop, set, replicate, length-take, length-map}
+use lib.Seq.{take-suc, take-all, length-take-le, set-at, append-snoc}
+use borrow.Author.Tests.{lt-ltb, le-ltb}
+use Rattle.ground.specs.Refusal.{ACCEPTED, OUTPUT-SHORT, INCOMPLETE}
+use Rattle.ground.specs.declared.Counted.the-variants as counts
+use Rattle.ground.specs.Bits.{Bits}
+use Rattle.ground.proofs.Answers.{written-front, fill-refused, fill-accepted}
+use Rattle.tps.specs.declared.receiver.TpsDecoder.{TpsDecoder}
+use Rattle.tps.specs.declared.word.Unpacked.{Unpacked}
+use Rattle.tps.specs.declared.word.Unpacked.the-variants.{Refused}
+use Rattle.tps.specs.Packing.{Unpacks}
+use Rattle.tps.specs.Receive.{standing, heldBits, receivedBits, bitsAnswer, bitsLeaves, wordNo, WordsBy, Words}
+
+-- one bit more is held
+pub standing-bit-next : (bits : List ℕ) (i : ℕ) → length bits ≡ 68 → i < 68 → set (heldBits i bits) i (min 1 (getD bits i 0)) ≡ heldBits (i + 1) bits
+unfolding heldBits
+standing-bit-next bits i z h =
+    let k : length (map (min 1) (take i bits)) ≡ i = simp (length-map, length-take) (omega arith) in
+    let e : 68 - i ≡ suc (68 - (i + 1)) = omega arith in
+    let l : i < length bits = omega arith in
+    let first = map (min 1) (take i bits) in
+    let rest = replicate {A = ℕ} (68 - suc i) 0 in
+    rw (e, add-one i, take-suc bits i 0 l, map-append)
+    (set-at first 0 rest (min 1 (getD bits i 0)) i k ∙ sym (append-snoc first (min 1 (getD bits i 0)) rest))
+
+pub all-bits-stand : (bits : List ℕ) → length bits ≡ 68 → heldBits 68 bits ≡ map (min 1) bits
+unfolding heldBits
+all-bits-stand bits z = append-nil (map (min 1) (take 68 bits)) ∙ ap (map (min 1)) (take-all 68 bits (omega arith))
+
+min-bit : (b : ℕ) → b < 2 → min 1 b ≡ b
+min-bit b h = omega arith
+
+-- bits are held as they are
+pub bits-held : (bs : List ℕ) → Bits bs → map (min 1) bs ≡ bs
+bits-held [] h = refl
+bits-held (b ∷ bs) h = ap₂ (λ (x : ℕ) (l : List ℕ). x ∷ l) (min-bit b (h .0)) (bits-held bs (h .1))
+
+-- ---- a call for the bits, where n symbols stand
+
+module _ (d : TpsDecoder) (o : List ℕ) (n : ℕ) (e : n ≡ standing d) where
+  pub bits-refused : length o < n → (counts.Refused OUTPUT-SHORT ≡ bitsAnswer d o) × (o ≡ bitsLeaves d o)
+  bits-refused h = fill-refused (standing d) (receivedBits d) o (omega arith)
+
+  -- the front of the output came back as the first n of the held bits
+  pub bits-written : n ≤ length o → (held t : List ℕ) → length held ≡ 68 → held ≡ map (min 1) (d .bits) → t ≡ take n held
+      → (counts.Count n ≡ bitsAnswer d o) × (t ++ drop n o ≡ bitsLeaves d o)
+  bits-written h held t l eh et =
+      let r = fill-accepted (standing d) (receivedBits d) o (omega arith) in
+      let m : length (take n held) ≡ n = length-take-le n held (omega arith) in (
+        ap counts.Count e ∙ r .0,
+        written-front (receivedBits d) o t n (et ∙ ap₂ take e eh) (ap length (sym (ap₂ take e eh)) ∙ m) ∙ r .1,
+      )
+
+-- ---- a call for the word
+
+module _ (d : TpsDecoder) where
+  word-by : (n : ℕ) (r : Unpacked) → wordNo d ≡ n → WordsBy n d r → Words d r
+  word-by n r e h = subst (λ (k : ℕ). WordsBy k d r) (sym e) h
+
+  pub word-incomplete : d .count < 68 → Words d (Refused INCOMPLETE)
+  word-incomplete h = word-by INCOMPLETE (Refused INCOMPLETE) (simp (lt-ltb (d .count) 68 h) refl) refl
+
+  word-accepted : 68 ≤ d .count → wordNo d ≡ ACCEPTED
+  word-accepted h = simp (le-ltb (d .count) 68 h) refl
+
+  pub word-unpacks : 68 ≤ d .count → (r : Unpacked) (held : List ℕ) → held ≡ map (min 1) (d .bits) → Unpacks held r → Words d r
+  word-unpacks h r held e u = word-by ACCEPTED r (word-accepted h) (subst (λ (l : List ℕ). Unpacks l r) e u)
+
+  -- and the other way round
+  pub word-unpacked : d .count ≡ 68 → (r : Unpacked) → Words d r → Unpacks (map (min 1) (d .bits)) r
+  word-unpacked e r w = subst (λ (k : ℕ). WordsBy k d r) (word-accepted (omega (arith, e))) w
