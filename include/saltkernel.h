@@ -43,7 +43,7 @@ enum {
     SALT_NOT_A_BIT = 2,    /* a bit argument, or an item of a bit slice, is above 1 */
     SALT_OUTPUT_SHORT = 3, /* a lent output or journal is shorter than needed */
     SALT_NO_WORD = 4,      /* no codeword lies within distance two */
-    SALT_RESERVED = 5,     /* a code that stands for nothing: of a received word, constellation 3 or rate 5, 6 or 7 */
+    SALT_RESERVED = 5,     /* constellation 3 or rate 5, 6 or 7 received, or a code handed in above those that exist */
     SALT_FULL = 6,         /* a symbol is fed when 68 stand */
     SALT_EMPTY = 7,        /* a step back when none stands */
     SALT_INCOMPLETE = 8,   /* a word is asked for with fewer than 68 */

@@ -19,13 +19,12 @@ pub const TS_SYNC_BYTE: u8 = 0x47;
 
 // How many packets a payload of len bytes makes.
 fn packets_for(len: usize) -> usize
-    requires { ⌜ len < 2 ^ 63 ⌝ }
     ensures { λ r. ⌜ r ≡ count len ⌝ }
 {
     if len == 0 {
         return 1;
     }
-    (len + 186) / TS_PAYLOAD_LEN
+    (len - 1) / TS_PAYLOAD_LEN + 1
 }
 
 // Where the part of a payload that begins at from ends.
@@ -69,7 +68,7 @@ pub fn ts_packetize(payload: &[u8], out: &mut [u8]) -> Counted
 {
     let len = payload.len();
     let n = packets_for(len);
-    if out.len() < TS_PACKET_LEN * n {
+    if out.len() / TS_PACKET_LEN < n {
         return Counted::Refused(ground::OUTPUT_SHORT);
     }
     let mut i = 0;

@@ -30,11 +30,8 @@ abbrev μ-loop : tie.MeasureT-loop
 packets-for-requires : tie.Need-packets-for-requires Inv-loop μ-loop
 packets-for-requires c κs = search needs
 
-mul-if1 : tie.Need-mul-if1 Inv-loop μ-loop
-mul-if1 c = search needs
-
 returns : tie.Need-returns Inv-loop μ-loop
-returns c = let a = c .before .before .before .before .args in let e = c .before .packets-for in rw (packetize-short (a .payload .now) (a .out .now) (e .result) (e .ensures) (c .if1 .taken)) (refl, refl)
+returns c = let a = c .before .before .before .before .args in let e = c .before .packets-for in rw (packetize-short (a .payload .now) (a .out .now) (e .result) (e .ensures) (omega (arith, c .if1 .taken))) (refl, refl)
 
 loop-holds : tie.Need-loop-holds Inv-loop μ-loop
 loop-holds c = search needs
@@ -119,7 +116,6 @@ ts-packetize-spec =
     Inv-loop
     μ-loop
     packets-for-requires
-    mul-if1
     returns
     loop-holds
     mul-from
