@@ -11,6 +11,7 @@ pub mod GaloisField
 pub mod Point
 pub mod Locator
 pub mod Syndrome
+pub mod Vanishing
 pub mod Pattern
 pub mod Roots
 pub mod LocatorSearch

@@ -1,8 +1,12 @@
 -- Document 01, 'TPS': the field GF(128) by the polynomial x^7 + x^3 + 1. An element is a number below 128, whose
 -- binary digits are the coefficients; the sum is XOR; the product is worked out by shifting and adding. No public
--- promise cites this file.
+-- promise cites this file; that the codewords are the 67 bits that vanish at x and at x^3 is the theorem
+-- `codeword-vanishes`.
+use mathlib.Core.Path.{_≡_}
+use mathlib.Core.List.{List, [], _∷_}
 use Prim.Native.Nat.{ℕ, zero, suc, _*_, _/_, _%_, _^_}
 use lib.Bits.{bitXor}
+use lib.ListN.{length}
 use Rattle.bch.specs.Polynomial.{divisionStep}
 
 -- x^7 + x^3 + 1
@@ -38,3 +42,22 @@ syndrome1 s = horner timesX 14 1 s
 
 unfoldable pub syndrome3 : ℕ → ℕ
 syndrome3 s = horner timesX3 14 1 s
+
+-- ---- polynomials at an element
+
+-- the element x, and an element to the n
+abbrev pub X : ℕ
+X = 2
+
+abbrev pub raised : ℕ → ℕ → ℕ
+raised p zero = 1
+raised p (suc n) = mul p (raised p n)
+
+-- the polynomial of a list of bits, highest degree first, at the element p
+abbrev pub polynomialAt : ℕ → List ℕ → ℕ
+polynomialAt p [] = 0
+polynomialAt p (b ∷ bs) = bitXor (b * raised p (length bs)) (polynomialAt p bs)
+
+-- it is zero at x and at x^3
+abbrev pub Vanishes : List ℕ → Type 0
+Vanishes bs = (polynomialAt X bs ≡ 0) × (polynomialAt (raised X 3) bs ≡ 0)
