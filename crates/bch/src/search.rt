@@ -95,10 +95,10 @@ fn roots(s1: u8, square: u8, c: u8) -> Found
     };
     let other = next_root(on, c);
     let second = other.degree;
-    if 66 < second {
-        return Found::NoWord;
+    if second <= 66 {
+        return Found::Two(66 - second, 66 - first);
     }
-    Found::Two(66 - second, 66 - first)
+    Found::NoWord
 }
 
 // The places whose change takes the remainder away, by its syndromes S1 and S3.

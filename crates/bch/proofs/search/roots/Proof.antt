@@ -44,15 +44,15 @@ next-root-requires-2 c κs =
 returns-3 : tie.Need-returns-3
 returns-3 c =
     λ s s3 g.
-    lone-root-no-pattern g (c .before .before .before .before .before .before .before .pre .1) (c .before .before .before .before .before .before .next-root .ensures) (omega (arith, c .before .before .before .before .before .if1 .left))
-    (c .before .before .before .times-x2 .ensures) (c .before .before .times-x .ensures) (c .before .next-root2 .ensures) (c .if3 .taken)
-    (c .before .before .before .before .if2 .left)
+    two-roots-located g (c .before .before .before .before .before .before .before .pre .1) (c .before .before .before .before .before .before .next-root .ensures) (omega (arith, c .before .before .before .before .before .if1 .left))
+    (c .before .before .before .times-x2 .ensures) (c .before .before .times-x .ensures) (c .before .next-root2 .ensures) (omega (arith, c .if3 .taken))
 
 returns-4 : tie.Need-returns-4
 returns-4 c =
     λ s s3 g.
-    two-roots-located g (c .before .before .before .before .before .before .before .pre .1) (c .before .before .before .before .before .before .next-root .ensures) (omega (arith, c .before .before .before .before .before .if1 .left))
+    lone-root-no-pattern g (c .before .before .before .before .before .before .before .pre .1) (c .before .before .before .before .before .before .next-root .ensures) (omega (arith, c .before .before .before .before .before .if1 .left))
     (c .before .before .before .times-x2 .ensures) (c .before .before .times-x .ensures) (c .before .next-root2 .ensures) (omega (arith, c .if3 .left))
+    (c .before .before .before .before .if2 .left)
 
 pub roots-spec : {M : Type 1} → statement M
 roots-spec =
