@@ -2,13 +2,15 @@
 -- place that a test has in the list, and what the usual tests decide. Assumes nothing.
 use mathlib.Core.Path.{_≡_, refl, sym, ap, subst}
 use mathlib.Core.Logic.{_↔_, _⊎_, inl, inr, ⊎-elim}
-use mathlib.Core.Bool.{Bool, true, false, not, _&&_, true≢false, false≢true}
+use mathlib.Core.Bool.{Bool, true, false, not, _&&_, _||_, true≢false, false≢true}
 use mathlib.Core.List.{List, [], _∷_}
 use Prim.Native.Nat.{ℕ, _<_, _≤_}
 use lib.Dec.{T, eqb, ltb, leb}
 use lib.Ieee.Fits.{and-l, and-r}
 use borrow.Author.Tests.{lt-ltb, le-ltb, ltb-true, ltb-false, lt-leb, le-leb, leb-true, leb-false, eq-eqb, ne-eqb, eqb-true, eqb-false, not-true, not-false}
-use Rattle.ground.specs.Refusal.{ACCEPTED, Test, _gives_, firstOf}
+use lib.ListN.{length}
+use Rattle.ground.specs.Answer.{fillNo}
+use Rattle.ground.specs.Refusal.{ACCEPTED, OUTPUT-SHORT, Test, _gives_, firstOf}
 use Rattle.ground.specs.Bits.{Bits, areBits}
 use Rattle.ground.proofs.Bits.{bits-of, are-bits}
 
@@ -42,6 +44,14 @@ not-decides {test} d = record {
   fails = (λ e. d .holds .0 (not-false test e), λ p. ap not (d .holds .1 p));
 }
 
+pub either-decides : {s t : Bool} {P Q R S : Type 0} → Decides s P Q → Decides t R S → Decides (s || t) (P ⊎ R) (Q × S)
+either-decides {s = true} d e = record { holds = (λ x. inl (d .holds .0 refl), λ x. refl); fails = (λ x. absurd (true≢false x), λ x. absurd (true≢false (d .fails .1 (x .0)))) }
+either-decides {s = false} d e =
+    record {
+      holds = (λ x. inr (e .holds .0 x), ⊎-elim (λ p. absurd (false≢true (d .holds .1 p))) (e .holds .1));
+      fails = (λ x. (d .fails .0 refl, e .fails .0 x), λ x. e .fails .1 (x .1));
+    }
+
 -- ---- the number of a call
 
 -- n is neither 0 nor given by a test of the list
@@ -74,3 +84,7 @@ pub given-behind : {test : Bool} {P Q R : Type 0} (k n : ℕ) (tests : List Test
     → (Q → (firstOf tests ≡ n) ↔ R) → (firstOf ((test gives k) ∷ tests) ≡ n) ↔ (Q × R)
 given-behind {test = true} k n tests d l r = (λ e. absurd (apart n k l e), λ p. absurd (true≢false (d .fails .1 (p .0))))
 given-behind {test = false} k n tests d l r = (λ e. (d .fails .0 refl, r (d .fails .0 refl) .0 e), λ p. r (p .0) .1 (p .1))
+
+-- a call that is refused only where the lent output has no room for n items
+pub fill-short-exactly : {A : Type 0} (n : ℕ) (out : List A) → (fillNo n out ≡ OUTPUT-SHORT) ↔ (length out < n)
+fill-short-exactly n out = given-here OUTPUT-SHORT [] (less-decides (length out) n) tt
