@@ -1,6 +1,6 @@
 -- A call's number is n exactly where the tests before those that give n fail and one of those holds: one law for each
 -- place that a test has in the list, and what the usual tests decide. Assumes nothing.
-use mathlib.Core.Path.{_≡_, refl, sym, ap, subst}
+use mathlib.Core.Path.{_≡_, refl, sym, ap, _∙_, subst}
 use mathlib.Core.Logic.{_↔_, _⊎_, inl, inr, ⊎-elim}
 use mathlib.Core.Bool.{Bool, true, false, not, _&&_, _||_, true≢false, false≢true}
 use mathlib.Core.List.{List, [], _∷_}
@@ -84,6 +84,15 @@ pub given-behind : {test : Bool} {P Q R : Type 0} (k n : ℕ) (tests : List Test
     → (Q → (firstOf tests ≡ n) ↔ R) → (firstOf ((test gives k) ∷ tests) ≡ n) ↔ (Q × R)
 given-behind {test = true} k n tests d l r = (λ e. absurd (apart n k l e), λ p. absurd (true≢false (d .fails .1 (p .0))))
 given-behind {test = false} k n tests d l r = (λ e. (d .fails .0 refl, r (d .fails .0 refl) .0 e), λ p. r (p .0) .1 (p .1))
+
+-- the last test, where no number is given
+pub accepted-last : {test : Bool} {P Q : Type 0} (k : ℕ) → Decides test P Q → T (not (eqb ACCEPTED k)) → (firstOf ((test gives k) ∷ []) ≡ ACCEPTED) ↔ Q
+accepted-last {test = true} k d l = (λ e. absurd (apart ACCEPTED k l e), λ q. absurd (true≢false (d .fails .1 q)))
+accepted-last {test = false} k d l = (λ e. d .fails .0 refl, λ q. refl)
+
+-- an answer that says a call's number says n exactly where that is n
+pub said-exactly : {P : Type 0} {said no n : ℕ} → said ≡ no → (no ≡ n) ↔ P → (said ≡ n) ↔ P
+said-exactly e h = (λ f. h .0 (sym e ∙ f), λ p. e ∙ h .1 p)
 
 -- a call that is refused only where the lent output has no room for n items
 pub fill-short-exactly : {A : Type 0} (n : ℕ) (out : List A) → (fillNo n out ≡ OUTPUT-SHORT) ↔ (length out < n)
