@@ -15,6 +15,7 @@ use Rattle.ground.specs.Answer.{counted, kept, written}
 use Rattle.ground.specs.declared.Counted.{Counted}
 use Rattle.ground.specs.Bits.{Bits, areBits}
 use Rattle.ground.specs.Digits.{digitsOf}
+use Rattle.ground.proofs.Answers.{OneResult, one-result}
 use Rattle.ground.proofs.Bits.{bits-of, are-bits}
 use Rattle.bch.specs.Code.{parity, encode, Codeword, distance, Lone}
 use Rattle.bch.specs.NearCodeword.{Near, nearOf, isNone, informationIn, found, none}
@@ -57,9 +58,8 @@ determined-by-tests w o a b r q false y z ex ey h k = refused-same LENGTH o a b 
 pub decode-determined : (w o a b : List ℕ) (r q : Counted) → Decodes w o r a → Decodes w o q b → (r ≡ q) × (a ≡ b)
 decode-determined w o a b r q h k = determined-by-tests w o a b r q (eqb (length w) 67) (areBits w) (ltb (length o) 53) refl refl h k
 
-pub encode-determined : (info o a b : List ℕ) (r q : Counted) → r ≡ encodeAnswer info o → a ≡ encodeLeaves info o
-    → q ≡ encodeAnswer info o → b ≡ encodeLeaves info o → (r ≡ q) × (a ≡ b)
-encode-determined info o a b r q er ea eq eb = (er ∙ sym eq, ea ∙ sym eb)
+pub encode-determined : (info o : List ℕ) → OneResult (encodeAnswer info o) (encodeLeaves info o)
+encode-determined info o = one-result (encodeAnswer info o) (encodeLeaves info o)
 
 -- ---- what the promise says of 67 bits with room for the information
 

@@ -24,4 +24,5 @@ pub mod Information
 pub mod NearCodeword
 pub mod Answer
 pub mod Determined
+pub mod Exactly
 pub mod Facts
