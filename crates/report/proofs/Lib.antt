@@ -9,4 +9,5 @@ pub mod Counts
 pub mod Calls
 pub mod Parts
 pub mod Cutting
+pub mod Determined
 pub mod Facts
