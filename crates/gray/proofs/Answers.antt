@@ -22,7 +22,7 @@ use Rattle.gray.specs.Levels.{orderOf, axisBits, at}
 use Rattle.gray.specs.Mapping.{everyOther, index, mapNumberOf, mapCoordinatesOf, mapped, mapAnswer}
 use Rattle.gray.specs.Inner.{mapAnswerAt, DemappedAt}
 use Rattle.gray.specs.Hard.{distances, First, bitsInTurn, bitsOf, demapAnswer, Demapped}
-use Rattle.gray.specs.Soft.{soft, softAt, softNumberOf, softNo, softAnswer}
+use Rattle.gray.specs.Soft.{soft, softsOf, softAt, softNumberOf, softValuesOf, softNo, softAnswer}
 
 -- ---- mapping
 pub mapped-says-number : (no : ℕ) (x y : Float) → mapNumberOf (mapped no x y) ≡ no
@@ -94,6 +94,14 @@ soft-says-number c v = go (softNo v)
     go : (n : ℕ) → softNumberOf (kept n (softAt (orderOf v) c) (Soft.Refused n)) ≡ n
     go zero = soft-accepted (orderOf v) c
     go (suc n) = refl
+
+pub soft-values-at : (o : ConstellationOrder) (c : Cell) → softValuesOf (softAt o c) ≡ softsOf o c (axisBits o)
+soft-values-at Qpsk c = refl
+soft-values-at Qam16 c = refl
+soft-values-at Qam64 c = refl
+
+pub soft-says-values : (c : Cell) (v : ℕ) → softNo v ≡ ACCEPTED → softValuesOf (softAnswer c v) ≡ softsOf (orderOf v) c (axisBits (orderOf v))
+soft-says-values c v a = rw a (soft-values-at (orderOf v) c)
 
 pub soft-answer-two : (c : Cell) (v : ℕ) (a b : Float) → v ≡ 2 → a ≡ soft Qpsk 0 (c .re) → b ≡ soft Qpsk 0 (c .im) → Soft.Two a b ≡ softAnswer c v
 soft-answer-two c v a b e p q = rw (e, p, q)

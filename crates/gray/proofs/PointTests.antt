@@ -16,7 +16,8 @@ use Rattle.ground.proofs.Tests.{below, below-at}
 use Rattle.gray.specs.Levels.{levels, axisBits, at}
 use Rattle.gray.specs.Mapping.{index}
 use Rattle.gray.specs.Hard.{distances, First, bitsOf, abs, entry}
-use Rattle.gray.specs.Soft.{soft, squares, least, signRight}
+use Rattle.gray.specs.Soft.{soft, squares, least}
+use Rattle.gray.specs.Points.{signRight}
 use Rattle.gray.proofs.Tests.{every, every-at}
 
 -- ---- the first index with the least entry, as a test

@@ -23,37 +23,27 @@ use Rattle.gray.specs.declared.Mapped.the-variants.{Point, Refused}
 use Rattle.gray.specs.Levels.{orderOf, levels, axisBits, at, isSize}
 use Rattle.gray.specs.Mapping.{index, mapped, mapAnswer}
 use Rattle.gray.specs.Hard.{distances, First, weave, bitsOf, Wrote, demapNo, Demapped}
-use Rattle.gray.specs.Soft.{soft, softAt, softNo, softAnswer, signRight, softValuesOf, signsRight}
+use Rattle.gray.specs.Soft.{soft, softsOf, softAt, softNo, softAnswer, softValuesOf}
+use Rattle.gray.specs.Points.{cellOf, signRight, signsRight, PointRight}
+use Rattle.gray.proofs.Answers.{soft-values-at}
 use Rattle.gray.proofs.PointTests.{GroupReturns, axis-sign, group-returns, index-first}
 use Rattle.gray.proofs.Ieee.First.{first-unique}
 
-abbrev pub cellOf : Float → Float → Cell
-cellOf x y = record { re = x; im = y }
-
 -- ---- both axes: a sign for each bit, by places
 module _ (o : ConstellationOrder) (i q : ℕ) (hi : i < length (levels o)) (hq : q < length (levels o)) where
-  upto : ℕ → List Float
-  upto zero = []
-  upto (suc k) = soft o k (at o i) ∷ soft o k (at o q) ∷ upto k
+  abbrev exact : Cell
+  exact = cellOf (at o i) (at o q)
 
-  signs-upto : (k : ℕ) → k ≤ axisBits o → T (signsRight (weave (digitsOf k i) (digitsOf k q)) (upto k))
-  unfolding upto
+  signs-upto : (k : ℕ) → k ≤ axisBits o → T (signsRight (weave (digitsOf k i) (digitsOf k q)) (softsOf o exact k))
   signs-upto zero h = tt
   signs-upto (suc k) h =
-      let rest = signsRight (weave (digitsOf k i) (digitsOf k q)) (upto k) in
+      let rest = signsRight (weave (digitsOf k i) (digitsOf k q)) (softsOf o exact k) in
       let I = signRight (i / 2 ^ k % 2) (soft o k (at o i)) in
       let Q = signRight (q / 2 ^ k % 2) (soft o k (at o q)) in
       and-i I (Q && rest) (axis-sign o i hi k h) (and-i Q rest (axis-sign o q hq k h) (signs-upto k (le-of-lt h)))
 
-cell-values : (o : ConstellationOrder) (i q : ℕ) (hi : i < length (levels o)) (hq : q < length (levels o)) → upto o i q hi hq (axisBits o) ≡ softValuesOf (softAt o (cellOf (at o i) (at o q)))
-unfolding upto
-cell-values Qpsk i q hi hq = refl
-cell-values Qam16 i q hi hq = refl
-cell-values Qam64 i q hi hq = refl
-
-cell-signs : (o : ConstellationOrder) (i q : ℕ) → i < length (levels o) → q < length (levels o) → T (signsRight (bitsOf o i q) (softValuesOf (softAt o (cellOf (at o i) (at o q)))))
-cell-signs o i q hi hq =
-    subst (λ (v : List Float). T (signsRight (bitsOf o i q) v)) (cell-values o i q hi hq) (signs-upto o i q hi hq (axisBits o) (le-refl (axisBits o)))
+  cell-signs : T (signsRight (bitsOf o i q) (softValuesOf (softAt o exact)))
+  cell-signs = subst (λ (v : List Float). T (signsRight (bitsOf o i q) v)) (sym (soft-values-at o exact)) (signs-upto (axisBits o) (le-refl (axisBits o)))
 
 -- ---- what an answer that is a point says
 size-order : (v : ℕ) → isSize v ≡ true → v ≡ 2 * axisBits (orderOf v)
@@ -120,3 +110,12 @@ soft-has-signs bits x y h =
     (cell-signs o (index o 0 bits) (index o 1 bits) (r .i-in) (r .q-in)) in
     subst (λ (n : ℕ). T (signsRight bits (softValuesOf (kept n (softAt o (cellOf x y)) (Soft.Refused n))))) (sym no)
     (subst (λ (c : Cell). T (signsRight bits (softValuesOf (softAt o c)))) (ap₂ cellOf (s .x-is) (s .y-is)) signs)
+
+-- every group of two, four or six bits, of which there are 84
+pub points-right : (bits : List ℕ) → isSize (length bits) ≡ true → areBits bits ≡ true → PointRight bits
+points-right bits e h =
+    let o = orderOf (length bits) in
+    let x = at o (index o 0 bits) in
+    let y = at o (index o 1 bits) in
+    let p = group-has-point bits e h in
+    record { x = x; y = y; point = p; hard = hard-returns-bits bits x y p; signs = soft-has-signs bits x y p }

@@ -17,8 +17,8 @@ use lib.Ieee.Exact.{HasValue}
 use borrow.Author.Tests.{ltb-false, leb-true, leb-false, ltb-true}
 use Rattle.ground.specs.declared.ConstellationOrder.{ConstellationOrder}
 use Rattle.ground.specs.declared.ConstellationOrder.the-variants.{Qpsk, Qam16, Qam64}
-use Rattle.gray.specs.Levels.{levels, scale}
-use Rattle.gray.specs.Scales.{units, pattern, energy, Below, Above, Nearer, Nearest}
+use Rattle.gray.specs.Levels.{levels, pattern}
+use Rattle.gray.specs.Scales.{units, energy, Below, Above, Nearer, Nearest}
 use Rattle.gray.proofs.Ieee.PatternOrder.{finite-field, units-mono}
 use Rattle.gray.proofs.Ieee.Patterns.{units-is, units-is-negative}
 
@@ -72,11 +72,11 @@ energy-is-mean Qpsk = refl
 energy-is-mean Qam16 = refl
 energy-is-mean Qam64 = refl
 
--- each scale is the float of its pattern, and of all finite f32 the one nearest to 1/√energy
-pub scale-is-nearest : (o : ConstellationOrder) → (scale o ≡ ofBits binary32 (pattern o)) × Nearest (energy o) (pattern o)
-scale-is-nearest Qpsk = (refl, from-neighbours (energy Qpsk) (pattern Qpsk) (ltb→lt _ _ tt) (ltb→lt _ _ tt) (ltb→lt _ _ tt))
-scale-is-nearest Qam16 = (refl, from-neighbours (energy Qam16) (pattern Qam16) (ltb→lt _ _ tt) (ltb→lt _ _ tt) (ltb→lt _ _ tt))
-scale-is-nearest Qam64 = (refl, from-neighbours (energy Qam64) (pattern Qam64) (ltb→lt _ _ tt) (ltb→lt _ _ tt) (ltb→lt _ _ tt))
+-- each scale is of all finite f32 the one nearest to 1/√energy
+pub scale-is-nearest : (o : ConstellationOrder) → Nearest (energy o) (pattern o)
+scale-is-nearest Qpsk = from-neighbours (energy Qpsk) (pattern Qpsk) (ltb→lt _ _ tt) (ltb→lt _ _ tt) (ltb→lt _ _ tt)
+scale-is-nearest Qam16 = from-neighbours (energy Qam16) (pattern Qam16) (ltb→lt _ _ tt) (ltb→lt _ _ tt) (ltb→lt _ _ tt)
+scale-is-nearest Qam64 = from-neighbours (energy Qam64) (pattern Qam64) (ltb→lt _ _ tt) (ltb→lt _ _ tt) (ltb→lt _ _ tt)
 
 -- ---- what `Nearer` reads of a finite f32 is its number: the pattern's own, or that with the sign taken off
 pub finite-has-units : (y : Float) → T (fits binary32 y) → T (finite y) → (s : Bool) → leb 0x8000_0000 (toBits binary32 y) ≡ s

@@ -14,17 +14,20 @@ use lib.Pow.{pow-mono}
 use Rattle.ground.specs.declared.ConstellationOrder.{ConstellationOrder}
 use Rattle.gray.specs.Levels.{levels, axisBits, at}
 use Rattle.gray.specs.Soft.{soft, square, squares, least, Least}
+use Rattle.gray.specs.Inner.{leastInTurn}
 use Rattle.gray.proofs.Ieee.Differences.{square-of-abs}
 use Rattle.gray.proofs.Ieee.Large.{Large, inf-square, large-distance, large-is-whole, large-square}
-use Rattle.gray.proofs.Ieee.Least.{least-unique, same-least, some-least}
+use Rattle.gray.proofs.Ieee.Least.{in-turn-is-least, least-is-least, least-unique, same-least, some-least}
 use Rattle.gray.proofs.Levels.{finite-at, near-at}
 use Rattle.gray.proofs.Squares.{some-squares, squares-all, squares-fit, squares-kind}
 
 module _ (o : ConstellationOrder) (x : Float) where
+  some-term : (s b : ℕ) → 0 < length (squares o s b x) → Least (squares o s b x) (least (squares o s b x))
+  some-term s b h = least-is-least (squares o s b x) _ (some-least (not (isNan x)) (squares o s b x) h (squares-kind o x s b))
+
   -- both terms of a soft value are the least of their squares, for every coordinate
   pub terms-are-least : (s : ℕ) → s < axisBits o → Least (squares o s 1 x) (least (squares o s 1 x)) × Least (squares o s 0 x) (least (squares o s 0 x))
-  terms-are-least s h =
-      (some-least (not (isNan x)) (squares o s 1 x) (some-squares o x s h .0) (squares-kind o x s 1), some-least (not (isNan x)) (squares o s 0 x) (some-squares o x s h .1) (squares-kind o x s 0))
+  terms-are-least s h = (some-term s 1 (some-squares o x s h .0), some-term s 0 (some-squares o x s h .1))
 
   -- and nothing else is
   pub term-unique : (s b : ℕ) (m n : Float) → Least (squares o s b x) m → Least (squares o s b x) n → m ≡ n
@@ -36,9 +39,12 @@ module _ (o : ConstellationOrder) (x : Float) where
   soft-of-terms s h m n p q =
       ap₂ (sub binary32) (term-unique s 1 _ m (terms-are-least s h .0) p) (term-unique s 0 _ n (terms-are-least s h .1) q)
 
-  pub soft-from : (s : ℕ) (a b : Float) → a ≡ least (squares o s 1 x) → b ≡ least (squares o s 0 x) → sub binary32 a b ≡ soft o s x
+  in-turn : (s b : ℕ) → 0 < length (squares o s b x) → leastInTurn (squares o s b x) ≡ least (squares o s b x)
+  in-turn s b h = in-turn-is-least (not (isNan x)) (squares o s b x) h (squares-kind o x s b) (squares-fit o x s b)
+
+  pub soft-from : (s : ℕ) → s < axisBits o → (a b : Float) → a ≡ leastInTurn (squares o s 1 x) → b ≡ leastInTurn (squares o s 0 x) → sub binary32 a b ≡ soft o s x
   unfolding soft
-  soft-from s a b p q = ap₂ (sub binary32) p q
+  soft-from s h a b p q = ap₂ (sub binary32) (p ∙ in-turn s 1 (some-squares o x s h .0)) (q ∙ in-turn s 0 (some-squares o x s h .1))
 
 soft-of-same : (o : ConstellationOrder) (s : ℕ) (x v : Float) → s < axisBits o → ((j : ℕ) → j < length (levels o) → square x (at o j) ≡ v) → soft o s x ≡ sub binary32 v v
 unfolding soft

@@ -16,7 +16,8 @@ use Rattle.ground.specs.declared.ConstellationOrder.the-variants.{Qpsk, Qam16, 
 use Rattle.ground.proofs.Mapped.{map-at}
 use Rattle.gray.specs.Levels.{levels, axisBits, at, coordinate}
 use Rattle.gray.specs.Hard.{entry}
-use Rattle.gray.specs.Soft.{square, squares, least, lesser, having}
+use Rattle.gray.specs.Soft.{square, squares, having}
+use Rattle.gray.specs.Inner.{lesser, leastInTurn}
 use Rattle.gray.proofs.Distances.{distance-kind}
 use Rattle.gray.proofs.Ieee.Differences.{square-kind}
 use Rattle.gray.proofs.Ieee.Least.{lesser-assoc, lesser-kind}
@@ -93,23 +94,23 @@ module _ (o : ConstellationOrder) (x : Float) where
   abbrev sq : ℕ → Float
   sq i = square x (at o i)
 
-  pub least-of-one : (i : ℕ) → sq i ≡ least (sq i ∷ [])
-  unfolding least
+  pub least-of-one : (i : ℕ) → sq i ≡ leastInTurn (sq i ∷ [])
+  unfolding leastInTurn
   least-of-one i = refl
 
-  pub least-of-two : (i j : ℕ) → lesser (sq i) (sq j) ≡ least (sq i ∷ sq j ∷ [])
-  unfolding least
+  pub least-of-two : (i j : ℕ) → lesser (sq i) (sq j) ≡ leastInTurn (sq i ∷ sq j ∷ [])
+  unfolding leastInTurn
   least-of-two i j = refl
 
-  pub least-by-pairs : (i j k l : ℕ) → lesser (lesser (sq i) (sq j)) (lesser (sq k) (sq l)) ≡ least (sq i ∷ sq j ∷ sq k ∷ sq l ∷ [])
-  unfolding least
+  pub least-by-pairs : (i j k l : ℕ) → lesser (lesser (sq i) (sq j)) (lesser (sq k) (sq l)) ≡ leastInTurn (sq i ∷ sq j ∷ sq k ∷ sq l ∷ [])
+  unfolding leastInTurn
   least-by-pairs i j k l =
       let t = not (isNan x) in
       lesser-assoc t (sq i) (sq j) (lesser (sq k) (sq l)) (squared-kind o x i) (squared-kind o x j) (lesser-kind t (sq k) (sq l) (squared-kind o x k) (squared-kind o x l))
 
   -- the least of four squares, as the code takes it
   pub least-of-four : (i j k l : ℕ) (a b c d m : Float) → m ≡ lesser (lesser a b) (lesser c d) → a ≡ sq i → b ≡ sq j → c ≡ sq k → d ≡ sq l
-      → m ≡ least (sq i ∷ sq j ∷ sq k ∷ sq l ∷ [])
+      → m ≡ leastInTurn (sq i ∷ sq j ∷ sq k ∷ sq l ∷ [])
   least-of-four i j k l a b c d m e p q r s =
       e
       ∙ ap₂ lesser (ap₂ lesser p q) (ap₂ lesser r s)

@@ -1,10 +1,10 @@
 -- What the private functions hand to each other. No public promise cites this file.
 use Prim.Native.Nat.{ℕ, _*_, _≤_, _<_}
-use mathlib.Core.Bool.{not, cond}
+use mathlib.Core.Bool.{false, not, cond}
 use mathlib.Core.Path.{_≡_}
 use mathlib.Core.List.{List, [], _∷_}
 use lib.Dec.{T}
-use lib.Ieee.{Float, binary32, sub, neg, lt}
+use lib.Ieee.{Float, inf, binary32, sub, neg, lt}
 use Rattle.ground.specs.declared.Cell.{Cell}
 use Rattle.ground.specs.Answer.{kept, fillNo}
 use Rattle.ground.specs.Refusal.{NOT-A-BIT, _gives_, firstOf}
@@ -43,3 +43,13 @@ pub record FirstBetween (o : ConstellationOrder) (x : Float) (lo hi : ℕ) (c : 
   pub apart : c .apart ≡ apartAt o x (c .index)
   pub least : (j : ℕ) → lo ≤ j → j < hi → T (not (lt (distanceAt o x j) (distanceAt o x (c .index))))
   pub first : (j : ℕ) → lo ≤ j → j < c .index → T (lt (distanceAt o x (c .index)) (distanceAt o x j))
+
+-- the first of two floats where it is less, else the second
+abbrev pub lesser : Float → Float → Float
+lesser a b = cond (lt a b) a b
+
+-- the least of a list as the code takes it: the lesser of the first and of what the rest gives
+unfoldable pub leastInTurn : List Float → Float
+leastInTurn [] = inf false
+leastInTurn (d ∷ []) = d
+leastInTurn (d ∷ e ∷ r) = lesser d (leastInTurn (e ∷ r))

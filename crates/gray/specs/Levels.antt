@@ -30,11 +30,14 @@ levels Qpsk = pos 1 ∷ negsuc 0 ∷ []
 levels Qam16 = pos 3 ∷ pos 1 ∷ negsuc 2 ∷ negsuc 0 ∷ []
 levels Qam64 = pos 7 ∷ pos 5 ∷ pos 1 ∷ pos 3 ∷ negsuc 6 ∷ negsuc 4 ∷ negsuc 0 ∷ negsuc 2 ∷ []
 
--- the scales, f32 bit patterns: the f32 nearest to 1/√2, 1/√10 and 1/√42 (Scales)
+-- the scales as f32 bit patterns: the f32 nearest to 1/√2, 1/√10 and 1/√42 (Scales)
+abbrev pub pattern : ConstellationOrder → ℕ
+pattern Qpsk = 0x3F35_04F3
+pattern Qam16 = 0x3EA1_E89B
+pattern Qam64 = 0x3E1E_01B3
+
 abbrev pub scale : ConstellationOrder → Float
-scale Qpsk = ofBits binary32 0x3F35_04F3
-scale Qam16 = ofBits binary32 0x3EA1_E89B
-scale Qam64 = ofBits binary32 0x3E1E_01B3
+scale o = ofBits binary32 (pattern o)
 
 -- the coordinate: the level as f32 times the scale
 abbrev pub coordinate : ConstellationOrder → ℤ → Float

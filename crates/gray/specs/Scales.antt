@@ -9,12 +9,6 @@ use lib.Ieee.Scale.{finite}
 use Rattle.ground.specs.declared.ConstellationOrder.{ConstellationOrder}
 use Rattle.ground.specs.declared.ConstellationOrder.the-variants.{Qpsk, Qam16, Qam64}
 
--- the bit pattern of a scale
-abbrev pub pattern : ConstellationOrder → ℕ
-pattern Qpsk = 0x3F35_04F3
-pattern Qam16 = 0x3EA1_E89B
-pattern Qam64 = 0x3E1E_01B3
-
 -- the mean energy of the points before scaling: the scale is to be 1/√energy
 abbrev pub energy : ConstellationOrder → ℕ
 energy Qpsk = 2

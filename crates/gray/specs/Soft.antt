@@ -1,6 +1,6 @@
 -- Document 01, 'Gray mapping': the soft value of a bit is (least squared distance to a level whose bit is 1) minus
 -- (the same for 0), in f32, one rounding an operation. Another group size is LENGTH.
-use Prim.Native.Nat.{ℕ, suc, _/_, _%_, _^_, _<_}
+use Prim.Native.Nat.{ℕ, zero, suc, _/_, _%_, _^_, _<_}
 use mathlib.Core.Bool.{Bool, true, false, not, _&&_, cond}
 use mathlib.Core.Path.{_≡_}
 use mathlib.Core.List.{List, [], _∷_, map}
@@ -10,7 +10,6 @@ use lib.Ieee.{Float, inf, binary32, sub, mul, lt}
 use lib.ListN.{length}
 use Rattle.ground.specs.declared.Cell.{Cell}
 use Rattle.ground.specs.Answer.{kept}
-use Rattle.ground.specs.Cells.{plusZero}
 use Rattle.ground.specs.Refusal.{LENGTH, _gives_, firstOf}
 use Rattle.ground.specs.declared.ConstellationOrder.{ConstellationOrder}
 use Rattle.ground.specs.declared.ConstellationOrder.the-variants.{Qpsk, Qam16, Qam64}
@@ -31,27 +30,38 @@ having s b k (l ∷ ls) = cond (eqb (k / 2 ^ s % 2) b) (l ∷ having s b (suc k)
 unfoldable pub squares : ConstellationOrder → ℕ → ℕ → Float → List Float
 squares o s b x = map (λ (l : ℤ). square x (coordinate o l)) (having s b 0 (levels o))
 
-abbrev pub lesser : Float → Float → Float
-lesser a b = cond (lt a b) a b
+-- no entry of a list is less than m
+abbrev pub noneLess : List Float → Float → Bool
+noneLess [] m = true
+noneLess (d ∷ ds) m = not (lt d m) && noneLess ds m
 
--- the least of a list
+-- the first entry of a list that passes a test (where none does +∞, which no call reaches)
+abbrev pub firstThat : (Float → Bool) → List Float → Float
+firstThat test [] = inf false
+firstThat test (d ∷ ds) = cond (test d) d (firstThat test ds)
+
+-- the least of a list: the entry that no entry is less than
 unfoldable pub least : List Float → Float
-least [] = inf false
-least (d ∷ []) = d
-least (d ∷ e ∷ r) = lesser d (least (e ∷ r))
+least ds = firstThat (noneLess ds) ds
 
--- the least, said without a computation: no entry is less than m, and m is one of them
+-- the same, said without a computation: no entry is less than m, and m is one of them
 pub record Least (ds : List Float) (m : Float) : Type 0 where
   pub none-less : (j : ℕ) → j < length ds → T (not (lt (entry ds j) m))
   pub place : ℕ
   pub inside : place < length ds
   pub here : entry ds place ≡ m
 
--- the soft value of the bit at place s of the axis
+-- the soft value of the bit at place s of the axis: the least squared distance to a level whose bit is 1, minus that
+-- for 0
 unfoldable pub soft : ConstellationOrder → ℕ → Float → Float
 soft o s x = sub binary32 (least (squares o s 1 x)) (least (squares o s 0 x))
 
--- the soft values of a cell, in the order of the bits: I and Q in turn, the high place first
+-- the soft values of the k low places of a cell, in the order of the bits: I and Q in turn, the high place first
+abbrev pub softsOf : ConstellationOrder → Cell → ℕ → List Float
+softsOf o c zero = []
+softsOf o c (suc k) = soft o k (c .re) ∷ soft o k (c .im) ∷ softsOf o c k
+
+-- those of all places, as an answer
 abbrev pub softAt : ConstellationOrder → Cell → Soft
 softAt Qpsk c = Two (soft Qpsk 0 (c .re)) (soft Qpsk 0 (c .im))
 softAt Qam16 c = Four (soft Qam16 1 (c .re)) (soft Qam16 1 (c .im)) (soft Qam16 0 (c .re)) (soft Qam16 0 (c .im))
@@ -77,13 +87,3 @@ softNo v = firstOf (not (isSize v) gives LENGTH ∷ [])
 
 abbrev pub softAnswer : Cell → ℕ → Soft
 softAnswer c v = kept (softNo v) (softAt (orderOf v) c) (Refused (softNo v))
-
--- ---- signs: a soft value is positive for the bit 0 and negative for the bit 1
-abbrev pub signRight : ℕ → Float → Bool
-signRight b v = cond (eqb b 0) (lt plusZero v) (lt v plusZero)
-
-abbrev pub signsRight : List ℕ → List Float → Bool
-signsRight [] [] = true
-signsRight [] (v ∷ s) = false
-signsRight (b ∷ r) [] = false
-signsRight (b ∷ r) (v ∷ s) = signRight b v && signsRight r s

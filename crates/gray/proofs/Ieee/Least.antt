@@ -1,5 +1,5 @@
 -- The least of a list of floats that are all magnitudes or all NaN: it is one of them that none is less than, the only
--- one, and the same by pairs. Assumes nothing.
+-- one, what the code takes, and the same by pairs. Assumes nothing.
 use Prim.Native.Nat.{ℕ, zero, suc, _<_, suc-le-suc}
 use native.Mathlib.Nat.{zero-lt-suc, not-suc-le-zero, le-of-suc-le-suc}
 use mathlib.Core.Path.{_≡_, refl, sym, _∙_, subst, ap₂}
@@ -8,8 +8,10 @@ use mathlib.Core.List.{List, [], _∷_}
 use lib.ListN.{length}
 use lib.Ieee.{Float, binary32, lt, fits}
 use lib.Dec.{T, T-not, not-T}
+use lib.Ieee.Fits.{and-i, and-l, and-r}
 use Rattle.gray.specs.Hard.{entry}
-use Rattle.gray.specs.Soft.{least, lesser, Least}
+use Rattle.gray.specs.Soft.{noneLess, firstThat, least, Least}
+use Rattle.gray.specs.Inner.{lesser, leastInTurn}
 use Rattle.gray.proofs.Ieee.Magnitudes.{float-lt-irrefl, kind, kind-antisymm, kind-lt-asymm, kind-lt-of-lt-of-le}
 
 pub lesser-kind : (k : Bool) (a b : Float) → T (kind k a) → T (kind k b) → T (kind k (lesser a b))
@@ -40,10 +42,10 @@ module _ (k : Bool) where
   shorter : (d : Float) (r : List Float) → Kind (d ∷ r) → Kind r
   shorter d r h j l = h (suc j) (suc-le-suc l)
 
-  least-kind : (d : Float) (r : List Float) → Kind (d ∷ r) → T (kind k (least (d ∷ r)))
-  unfolding least
-  least-kind d [] h = h 0 (zero-lt-suc 0)
-  least-kind d (e ∷ r) h = lesser-kind k d (least (e ∷ r)) (h 0 (zero-lt-suc (length (e ∷ r)))) (least-kind e r (shorter d (e ∷ r) h))
+  in-turn-kind : (d : Float) (r : List Float) → Kind (d ∷ r) → T (kind k (leastInTurn (d ∷ r)))
+  unfolding leastInTurn
+  in-turn-kind d [] h = h 0 (zero-lt-suc 0)
+  in-turn-kind d (e ∷ r) h = lesser-kind k d (leastInTurn (e ∷ r)) (h 0 (zero-lt-suc (length (e ∷ r)))) (in-turn-kind e r (shorter d (e ∷ r) h))
 
   -- one entry more, in front
   least-step : (d m : Float) (r : List Float) → Kind (d ∷ r) → T (kind k m) → Least r m → (t : Bool) → lt d m ≡ t → Least (d ∷ r) (cond t d m)
@@ -64,19 +66,19 @@ module _ (k : Bool) where
       none zero l = subst (λ (t : Bool). T (not t)) (sym q) tt
       none (suc j) l = L .none-less j (le-of-suc-le-suc l)
 
-  pub least-is-least : (d : Float) (r : List Float) → Kind (d ∷ r) → Least (d ∷ r) (least (d ∷ r))
-  unfolding least
-  least-is-least d [] h = record { none-less = none; place = 0; inside = zero-lt-suc 0; here = refl }
+  pub in-turn-least : (d : Float) (r : List Float) → Kind (d ∷ r) → Least (d ∷ r) (leastInTurn (d ∷ r))
+  unfolding leastInTurn
+  in-turn-least d [] h = record { none-less = none; place = 0; inside = zero-lt-suc 0; here = refl }
     where
       none : (j : ℕ) → j < 1 → T (not (lt (entry (d ∷ []) j) d))
       none zero l = float-lt-irrefl d
       none (suc j) l = absurd (not-suc-le-zero (le-of-suc-le-suc l))
-  least-is-least d (e ∷ r) h =
-      least-step d (least (e ∷ r)) (e ∷ r) h (least-kind e r (shorter d (e ∷ r) h)) (least-is-least e r (shorter d (e ∷ r) h)) (lt d (least (e ∷ r))) refl
+  in-turn-least d (e ∷ r) h =
+      least-step d (leastInTurn (e ∷ r)) (e ∷ r) h (in-turn-kind e r (shorter d (e ∷ r) h)) (in-turn-least e r (shorter d (e ∷ r) h)) (lt d (leastInTurn (e ∷ r))) refl
 
-  pub some-least : (ds : List Float) → 0 < length ds → Kind ds → Least ds (least ds)
+  pub some-least : (ds : List Float) → 0 < length ds → Kind ds → Least ds (leastInTurn ds)
   some-least [] h K = absurd (not-suc-le-zero h)
-  some-least (d ∷ r) h K = least-is-least d r K
+  some-least (d ∷ r) h K = in-turn-least d r K
 
 pub least-unique : (k : Bool) (ds : List Float) → Kind k ds → ((j : ℕ) → j < length ds → T (fits binary32 (entry ds j))) → (a b : Float) → Least ds a → Least ds b → a ≡ b
 least-unique k ds K F a b p q =
@@ -87,14 +89,48 @@ least-unique k ds K F a b p q =
     kind-antisymm k a b ka kb fa fb (subst (λ (x : Float). T (not (lt x b))) (p .here) (q .none-less (p .place) (p .inside)))
     (subst (λ (x : Float). T (not (lt x a))) (q .here) (p .none-less (q .place) (q .inside)))
 
--- ---- entries that are all the same
-cond-self : (t : Bool) (v : Float) → cond t v v ≡ v
-cond-self true v = refl
-cond-self false v = refl
+-- ---- the first entry that no entry is less than
+none-less-of : (ds : List Float) (m : Float) → ((j : ℕ) → j < length ds → T (not (lt (entry ds j) m))) → T (noneLess ds m)
+none-less-of [] m h = tt
+none-less-of (d ∷ ds) m h = and-i (not (lt d m)) (noneLess ds m) (h 0 (zero-lt-suc (length ds))) (none-less-of ds m (λ j l. h (suc j) (suc-le-suc l)))
 
-pub same-least : (v : Float) (ds : List Float) → 0 < length ds → ((j : ℕ) → j < length ds → entry ds j ≡ v) → least ds ≡ v
+none-less-at : (ds : List Float) (m : Float) → T (noneLess ds m) → (j : ℕ) → j < length ds → T (not (lt (entry ds j) m))
+none-less-at [] m t j l = absurd (not-suc-le-zero l)
+none-less-at (d ∷ ds) m t zero l = and-l (not (lt d m)) (noneLess ds m) t
+none-less-at (d ∷ ds) m t (suc j) l = none-less-at ds m (and-r (not (lt d m)) (noneLess ds m) t) j (le-of-suc-le-suc l)
+
+-- an entry that passes a test
+record Passes (test : Float → Bool) (ds : List Float) (m : Float) : Type 0 where
+  pub place : ℕ
+  pub inside : place < length ds
+  pub here : entry ds place ≡ m
+  pub passes : T (test m)
+
+module _ (test : Float → Bool) where
+  found-by : (d : Float) (ds : List Float) (b : Bool) → test d ≡ b → (test d ≡ false → Passes test ds (firstThat test ds)) → Passes test (d ∷ ds) (cond b d (firstThat test ds))
+  found-by d ds true e f = record { place = 0; inside = zero-lt-suc (length ds); here = refl; passes = subst T (sym e) tt }
+  found-by d ds false e f = let r = f e in record { place = suc (r .place); inside = suc-le-suc (r .inside); here = r .here; passes = r .passes }
+
+  found : (ds : List Float) (j : ℕ) → j < length ds → T (test (entry ds j)) → Passes test ds (firstThat test ds)
+  found [] j l t = absurd (not-suc-le-zero l)
+  found (d ∷ ds) zero l t = found-by d ds (test d) refl (λ e. absurd (subst T e t))
+  found (d ∷ ds) (suc j) l t = found-by d ds (test d) refl (λ e. found ds j (le-of-suc-le-suc l) t)
+
+-- where there is a least, that is one
+pub least-is-least : (ds : List Float) (m : Float) → Least ds m → Least ds (least ds)
 unfolding least
-same-least v [] h e = absurd (not-suc-le-zero h)
-same-least v (d ∷ []) h e = e 0 (zero-lt-suc 0)
-same-least v (d ∷ c ∷ r) h e =
-    ap₂ lesser (e 0 (zero-lt-suc (length (c ∷ r)))) (same-least v (c ∷ r) (zero-lt-suc (length r)) (λ j l. e (suc j) (suc-le-suc l))) ∙ cond-self (lt v v) v
+least-is-least ds m L =
+    let none = none-less-of ds m (L .none-less) in
+    let r = found (noneLess ds) ds (L .place) (L .inside) (subst (λ (x : Float). T (noneLess ds x)) (sym (L .here)) none) in
+    record { none-less = none-less-at ds (firstThat (noneLess ds) ds) (r .passes); place = r .place; inside = r .inside; here = r .here }
+
+-- and it is what the code takes
+pub in-turn-is-least : (k : Bool) (ds : List Float) → 0 < length ds → Kind k ds → ((j : ℕ) → j < length ds → T (fits binary32 (entry ds j))) → leastInTurn ds ≡ least ds
+in-turn-is-least k ds h K F =
+    let L = some-least k ds h K in least-unique k ds K F (leastInTurn ds) (least ds) L (least-is-least ds (leastInTurn ds) L)
+
+-- the least of entries that are all the same
+pub same-least : (v : Float) (ds : List Float) → 0 < length ds → ((j : ℕ) → j < length ds → entry ds j ≡ v) → least ds ≡ v
+same-least v ds h e =
+    let none : (j : ℕ) → j < length ds → T (not (lt (entry ds j) v)) = λ j l. subst (λ (y : Float). T (not (lt y v))) (sym (e j l)) (float-lt-irrefl v) in
+    let L = least-is-least ds v record { none-less = none; place = 0; inside = h; here = e 0 h } in sym (L .here) ∙ e (L .place) (L .inside)

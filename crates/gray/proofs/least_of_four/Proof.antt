@@ -1,6 +1,6 @@
 -- `gray::least_of_four` meets its contract: it is what its three calls give. Assumes nothing.
 use mathlib.Core.Path.{_∙_, ap₂}
-use Rattle.gray.specs.Soft.{lesser}
+use Rattle.gray.specs.Inner.{lesser}
 use borrow.Author.Needs.{needs}
 use Rattle.gray.proofs.least_of_four.Statement.{statement}
 use Rattle.gray.proofs.least_of_four.Tie as tie

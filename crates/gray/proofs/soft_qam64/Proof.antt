@@ -1,4 +1,5 @@
 -- `gray::soft_qam64` meets its contract: each term is the least of four squares, by pairs. Assumes nothing.
+use native.Mathlib.Omega.{arith}
 use Rattle.ground.specs.declared.ConstellationOrder.the-variants.{Qam64}
 use Rattle.gray.specs.Soft.{squares}
 use Rattle.gray.proofs.Squares.{least-of-four}
@@ -61,8 +62,8 @@ returns c =
     let q5 = c .before .before .before .before .before .before .before .before .squared6 .ensures in
     let q6 = c .before .before .before .before .before .before .before .squared7 .ensures in
     let q7 = c .before .before .before .before .before .before .squared8 .ensures in (
-      soft-from Qam64 x 2 _ _ (least-of-four Qam64 x 4 5 6 7 _ _ _ _ _ (c .before .before .before .before .before .least-of-four .ensures) q4 q5 q6 q7) (least-of-four Qam64 x 0 1 2 3 _ _ _ _ _ (c .before .before .before .before .least-of-four2 .ensures) q0 q1 q2 q3),
-      (soft-from Qam64 x 1 _ _ (least-of-four Qam64 x 2 3 6 7 _ _ _ _ _ (c .before .before .before .least-of-four3 .ensures) q2 q3 q6 q7) (least-of-four Qam64 x 0 1 4 5 _ _ _ _ _ (c .before .before .least-of-four4 .ensures) q0 q1 q4 q5), soft-from Qam64 x 0 _ _ (least-of-four Qam64 x 1 3 5 7 _ _ _ _ _ (c .before .least-of-four5 .ensures) q1 q3 q5 q7) (least-of-four Qam64 x 0 2 4 6 _ _ _ _ _ (c .least-of-four6 .ensures) q0 q2 q4 q6)),
+      soft-from Qam64 x 2 (omega arith) _ _ (least-of-four Qam64 x 4 5 6 7 _ _ _ _ _ (c .before .before .before .before .before .least-of-four .ensures) q4 q5 q6 q7) (least-of-four Qam64 x 0 1 2 3 _ _ _ _ _ (c .before .before .before .before .least-of-four2 .ensures) q0 q1 q2 q3),
+      (soft-from Qam64 x 1 (omega arith) _ _ (least-of-four Qam64 x 2 3 6 7 _ _ _ _ _ (c .before .before .before .least-of-four3 .ensures) q2 q3 q6 q7) (least-of-four Qam64 x 0 1 4 5 _ _ _ _ _ (c .before .before .least-of-four4 .ensures) q0 q1 q4 q5), soft-from Qam64 x 0 (omega arith) _ _ (least-of-four Qam64 x 1 3 5 7 _ _ _ _ _ (c .before .least-of-four5 .ensures) q1 q3 q5 q7) (least-of-four Qam64 x 0 2 4 6 _ _ _ _ _ (c .least-of-four6 .ensures) q0 q2 q4 q6)),
     )
 
 pub soft-qam64-spec : {M : Type 1} → statement M

@@ -1,4 +1,5 @@
 -- `gray::soft_qpsk` meets its contract: each term is the one square. Assumes nothing.
+use native.Mathlib.Omega.{arith}
 use Rattle.ground.specs.declared.ConstellationOrder.the-variants.{Qpsk}
 use mathlib.Core.Path.{_∙_}
 use Rattle.gray.specs.Soft.{squares}
@@ -18,7 +19,7 @@ returns : tie.Need-returns
 unfolding squares
 returns c =
     let x = c .before .before .args .x in
-    soft-from Qpsk x 0 _ _ (c .before .squared .ensures ∙ least-of-one Qpsk x 1) (c .squared2 .ensures ∙ least-of-one Qpsk x 0)
+    soft-from Qpsk x 0 (omega arith) _ _ (c .before .squared .ensures ∙ least-of-one Qpsk x 1) (c .squared2 .ensures ∙ least-of-one Qpsk x 0)
 
 pub soft-qpsk-spec : {M : Type 1} → statement M
 soft-qpsk-spec = tie.close (tie.spec squared-requires squared-requires-2 returns)
