@@ -4,3 +4,4 @@ pub mod MirroredRegister
 pub mod Outputs
 pub mod Streams
 pub mod Whitening
+pub mod Determined

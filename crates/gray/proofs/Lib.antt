@@ -7,6 +7,7 @@ pub mod Levels
 pub mod Nearest
 pub mod PointTests
 pub mod Points
+pub mod Refusals
 pub mod Scales
 pub mod SoftValues
 pub mod Squares
