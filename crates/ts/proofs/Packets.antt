@@ -110,7 +110,7 @@ padded-chunks (suc n) i s h =
     ap (λ (x : List ℕ). padded (take 187 s) ++ x) (padded-chunks n (i + 1) (drop 187 s) (simp length-drop (omega arith)))
     ∙ padded-join s n (leb 187 (length s)) refl h
 
-packetized-length : (s : List ℕ) → length (packetized s) ≡ 188 * count (length s)
+pub packetized-length : (s : List ℕ) → length (packetized s) ≡ 188 * count (length s)
 packetized-length s = chunks-length (λ (i : ℕ) (c : List ℕ). packet c) 187 188 (count (length s)) 0 s (packets-each (count (length s)) s)
 
 -- what `ts_depacketize` writes of what `ts_packetize` wrote: the payload, then zeros
