@@ -1,7 +1,7 @@
 // Energy dispersal, packet by packet, with the register's outputs of a group made before.
 ghost use mathlib.Core.Path.{_≡_};
 ghost use mathlib.Core.Bool.{cond};
-ghost use Prim.Native.Nat.{_%_, _<_};
+ghost use Prim.Native.Nat.{_/_, _%_, _<_};
 ghost use lib.Dec.{eqb};
 ghost use lib.ListN.{length, getD, set};
 ghost use Rattle.dispersal.specs.Register.{start};
@@ -43,12 +43,19 @@ fn disperse_packet(place: usize, outputs: &[u8], packet: &mut [u8])
     dispersal::inner::whiten(&outputs[from..to], &mut packet[1..]);
 }
 
+// How many packets so many bytes are.
+fn packets_in(len: usize) -> usize
+    ensures { λ r. ⌜ r ≡ len / 188 ⌝ }
+{
+    len / TS_PACKET_LEN
+}
+
 // Disperses whole packets, each group of eight from the outputs' beginning.
 pub(crate) fn disperse_packets(outputs: &[u8], packets: &mut [u8])
     requires { ⌜ (now outputs ≡ stream 1504 start) × (length (now packets) % 188 ≡ 0) ⌝ }
     ensures { λ _. ⌜ now (packets .exit) ≡ dispersed (now (packets .entry)) ⌝ }
 {
-    let n = packets.len() / TS_PACKET_LEN;
+    let n = packets_in(packets.len());
     let mut i = 0;
     while i < n {
         let base = TS_PACKET_LEN * i;

@@ -19,6 +19,9 @@ Inv-loop outputs packets₀ n i₀ packets i = (i ≤ n) × (188 * n ≡ length 
 abbrev μ-loop : tie.MeasureT-loop
 μ-loop outputs packets₀ n i₀ packets i = n - i
 
+packets-in-requires : tie.Need-packets-in-requires Inv-loop μ-loop
+packets-in-requires c κs = search needs
+
 loop-holds : tie.Need-loop-holds Inv-loop μ-loop
 loop-holds c = search needs
 
@@ -50,9 +53,9 @@ loop-again : tie.Need-loop-again Inv-loop μ-loop
 loop-again c =
     let h = c .before .before .before .before .loop-test .taken in
     let l = c .before .before .before .before .before .loop in
-    let o = c .before .before .before .before .before .before .before .before .args .packets .now in
+    let o = c .before .before .before .before .before .before .before .before .before .args .packets .now in
     let d = c .before .before .disperse-packet in
-    let n : ℕ = length o / 188 in
+    let n : ℕ = c .before .before .before .before .before .before .packets-in .result in
     let k : ℕ = 188 * l .i + 188 - 188 * l .i in
     let e = dispersed-each n o (omega arith) in
     let w : length (chunks dispersedPacket 188 n 0 o) ≡ 188 * n = chunks-length dispersedPacket 188 188 n 0 o e in
@@ -70,10 +73,12 @@ same-length c = search needs
 returns : tie.Need-returns Inv-loop μ-loop
 returns c =
     let l = c .before .loop in
-    let o = c .before .before .before .before .args .packets .now in
-    let n : ℕ = length o / 188 in
-    let w : length (dispersed o) ≡ 188 * n = chunks-length dispersedPacket 188 188 n 0 o (dispersed-each n o (omega arith)) in
-    front-full (dispersed o) o (l .packets) (188 * l .i) (omega arith) (omega arith) (l .inv .3)
+    let o = c .before .before .before .before .before .args .packets .now in
+    let m = c .before .before .packets-in in
+    let n : ℕ = m .result in
+    let w : length (chunks dispersedPacket 188 n 0 o) ≡ 188 * n = chunks-length dispersedPacket 188 188 n 0 o (dispersed-each n o (omega arith)) in
+    front-full (chunks dispersedPacket 188 n 0 o) o (l .packets) (188 * l .i) (omega arith) (omega arith) (l .inv .3)
+    ∙ ap (λ (k : ℕ). chunks dispersedPacket 188 k 0 o) (m .ensures)
 
 pub disperse-packets-spec : {M : Type 1} → statement M
 disperse-packets-spec =
@@ -81,6 +86,7 @@ disperse-packets-spec =
     (tie.spec
     Inv-loop
     μ-loop
+    packets-in-requires
     loop-holds
     mul-base
     add-end
