@@ -1,15 +1,17 @@
--- Two results that meet the promise of a call are equal, for each call; and OUTPUT SHORT is given exactly where the
--- output is the shorter. Assumes nothing.
+-- Two results that meet the promise of a call are equal, for each call; OUTPUT SHORT is given exactly where the output is
+-- the shorter; and the bytes answered are the length of what is written. Assumes nothing.
 use Prim.Native.Nat.{ℕ, _<_}
 use mathlib.Core.Path.{_≡_, sym, ap, _∙_}
 use mathlib.Core.List.{List}
 use mathlib.Core.Logic.{_↔_}
-use lib.ListN.{length}
-use Rattle.ground.specs.Refusal.{OUTPUT-SHORT}
-use Rattle.ground.proofs.Answers.{OneResult, one-result}
+use lib.ListN.{length, take}
+use Rattle.ground.specs.Answer.{countOf}
+use Rattle.ground.specs.Refusal.{ACCEPTED, OUTPUT-SHORT}
+use Rattle.ground.proofs.Answers.{OneResult, one-result, answered}
 use Rattle.ground.proofs.Exactly.{fill-short-exactly}
 use Rattle.dispersal.specs.declared.DvbTEnergyDispersal.{DvbTEnergyDispersal}
 use Rattle.dispersal.specs.Register.{start, steps}
+use Rattle.dispersal.proofs.Whitening.{whitened-length}
 use Rattle.dispersal.specs.Whitener.{registerOf, feedInPlaceAnswer, feedInPlaceLeaves, feedNo, feedAnswer, feedLeaves}
 
 -- a whitener is known by its register
@@ -33,3 +35,8 @@ feed-determined d bytes out = one-result (feedAnswer d bytes out) (feedLeaves d 
 
 pub feed-short-exactly : (bytes out : List ℕ) → (feedNo bytes out ≡ OUTPUT-SHORT) ↔ (length out < length bytes)
 feed-short-exactly bytes out = fill-short-exactly (length bytes) out
+
+pub feed-answers-length : (d : DvbTEnergyDispersal) (bytes out : List ℕ) → feedNo bytes out ≡ ACCEPTED
+    → let n = countOf (feedAnswer d bytes out .answer) in
+    (n ≡ length (feedInPlaceLeaves d bytes)) × (take n (feedLeaves d bytes out) ≡ feedInPlaceLeaves d bytes)
+feed-answers-length d bytes out a = answered (feedNo bytes out) (length bytes) (feedInPlaceLeaves d bytes) out a (whitened-length (registerOf d) bytes)

@@ -1,17 +1,18 @@
--- Each refusal of a call is given exactly where its test holds and none before it. Assumes nothing.
+-- Each refusal of a call is given exactly where its test holds and none before it; and an accepted demapping answers how
+-- many bits it writes. Assumes nothing.
 use Prim.Native.Nat.{ℕ, _<_}
-use mathlib.Core.Path.{_≡_}
+use mathlib.Core.Path.{_≡_, refl}
 use mathlib.Core.Bool.{not}
 use mathlib.Core.List.{List, [], _∷_}
-use mathlib.Core.Logic.{_⊎_, _↔_}
+use mathlib.Core.Logic.{_⊎_, inl, inr, _↔_, Iff·rfl}
 use lib.ListN.{length}
-use Rattle.ground.specs.Answer.{short}
+use Rattle.ground.specs.Answer.{countOf, short}
 use Rattle.ground.specs.Bits.{Bits, areBits}
-use Rattle.ground.specs.Refusal.{LENGTH, NOT-A-BIT, OUTPUT-SHORT, _gives_}
+use Rattle.ground.specs.Refusal.{ACCEPTED, LENGTH, NOT-A-BIT, OUTPUT-SHORT, _gives_}
 use Rattle.ground.proofs.Exactly.{Decides, equal-decides, bits-decide, not-decides, either-decides, given-here, given-behind, fill-short-exactly}
-use Rattle.gray.specs.Levels.{isSize}
+use Rattle.gray.specs.Levels.{isSize, orderOf}
 use Rattle.gray.specs.Mapping.{mapNo}
-use Rattle.gray.specs.Hard.{demapNo}
+use Rattle.gray.specs.Hard.{bitsOf, demapNo, demapAnswer}
 use Rattle.gray.specs.Soft.{softNo}
 
 -- a size of a group, and another number
@@ -23,6 +24,11 @@ NoSize v = (v ≡ 2 → ⊥) × ((v ≡ 4 → ⊥) × (v ≡ 6 → ⊥))
 
 other-size : (v : ℕ) → Decides (not (isSize v)) (NoSize v) (Size v)
 other-size v = not-decides (either-decides (equal-decides v 2) (either-decides (equal-decides v 4) (equal-decides v 6)))
+
+bits-of-size : (v i q : ℕ) → Size v → v ≡ length (bitsOf (orderOf v) i q)
+bits-of-size v i q (inl e) = rw e refl
+bits-of-size v i q (inr (inl e)) = rw e refl
+bits-of-size v i q (inr (inr e)) = rw e refl
 
 pub soft-length-exactly : (v : ℕ) → (softNo v ≡ LENGTH) ↔ NoSize v
 soft-length-exactly v = given-here LENGTH [] (other-size v) tt
@@ -42,3 +48,7 @@ module _ (v : ℕ) (out : List ℕ) where
 
   pub demap-short-exactly : (demapNo v out ≡ OUTPUT-SHORT) ↔ (Size v × (length out < v))
   demap-short-exactly = given-behind LENGTH OUTPUT-SHORT (short v out gives OUTPUT-SHORT ∷ []) (other-size v) tt (λ size. fill-short-exactly v out)
+
+  -- the bits answered are those of the two indices
+  pub demap-answers-length : demapNo v out ≡ ACCEPTED → (i q : ℕ) → countOf (demapAnswer v out) ≡ length (bitsOf (orderOf v) i q)
+  demap-answers-length a i q = rw a (bits-of-size v i q (given-behind LENGTH ACCEPTED (short v out gives OUTPUT-SHORT ∷ []) (other-size v) tt (λ size. Iff·rfl) .0 a .0))
