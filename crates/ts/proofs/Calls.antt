@@ -11,9 +11,8 @@ use Rattle.ground.proofs.Answers.{answered}
 use Rattle.ground.proofs.Chunks.{chunks-length}
 use Rattle.ts.specs.Packets.{count, packet, packetized, packetizeNo, packetizeAnswer, packetizeLeaves, payloads, depacketizeNo, depacketizeAnswer, depacketizeLeaves}
 use Rattle.ts.specs.Stuffing.{null, nulls, stuffed, stuffNo, stuffAnswer, stuffLeaves}
-use Rattle.ts.proofs.Numbers.{depacketize-accepted}
+use Rattle.ts.proofs.Numbers.{depacketize-accepted, stuff-taken}
 use Rattle.ts.proofs.Packets.{packetized-length, payloads-each, taken-apart-is-payload}
-use Rattle.ts.proofs.Refusals.{stuff-taken}
 use Rattle.ts.proofs.Stuffing.{nulls-each}
 
 pub packetize-answers-length : (payload out : List ℕ) → packetizeNo payload out ≡ ACCEPTED

@@ -22,7 +22,7 @@ use Rattle.dispersal.proofs.Register.{steps-add}
 use Rattle.dispersal.proofs.Streams.{stream-part}
 use Rattle.dispersal.proofs.Whitening.{xored-is-whitened, whitened-length, whitened-twice}
 use Rattle.ts.specs.Dispersal.{registerAt, sync, dispersedPacket, dispersed, disperseLeaves}
-use Rattle.ts.proofs.Numbers.{disperse-ragged, disperse-accepted}
+use Rattle.ts.proofs.Numbers.{disperse-length-exactly, disperse-accepted}
 
 -- packet i is whitened from the start moved on by the 188 bytes of each packet of its group before it
 register-at-by : (i : ℕ) (t : Bool) → eqb (suc i % 8) 0 ≡ t → registerAt i ≡ steps (8 * (188 * (i % 8))) start
@@ -127,7 +127,7 @@ twice-by-length s true e =
     let a : disperseLeaves s ≡ dispersed s = ap (λ (no : ℕ). kept no (dispersed s) s) (disperse-accepted s m) in
     ap disperseLeaves a ∙ ap (λ (no : ℕ). kept no (dispersed (dispersed s)) (dispersed s)) (disperse-accepted (dispersed s) l) ∙ dispersed-twice s m
 twice-by-length s false e =
-    let a : disperseLeaves s ≡ s = ap (λ (no : ℕ). kept no (dispersed s) s) (disperse-ragged s (eqb-false (length s % 188) 0 e)) in ap disperseLeaves a ∙ a
+    let a : disperseLeaves s ≡ s = ap (λ (no : ℕ). kept no (dispersed s) s) (disperse-length-exactly s .1 (eqb-false (length s % 188) 0 e)) in ap disperseLeaves a ∙ a
 
 -- what `ts_energy_disperse` leaves of what it left is the buffer, for every buffer
 pub dispersed-twice-is-same : (s : List ℕ) → disperseLeaves (disperseLeaves s) ≡ s

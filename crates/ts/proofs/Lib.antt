@@ -4,4 +4,3 @@ pub mod Stuffing
 pub mod Dispersal
 pub mod Calls
 pub mod Determined
-pub mod Refusals

@@ -1,62 +1,83 @@
--- The number of each way out of a call. Assumes nothing.
-use Prim.Native.Nat.{ℕ, _*_, _/_, _%_, _≤_, _<_}
+-- When each number of a call is given: a refusal's exactly where its test holds and none before it. Assumes nothing.
+use Prim.Native.Nat.{ℕ, _*_, _/_, _%_, _<_, _≤_}
 use mathlib.Core.Path.{_≡_, subst}
-use mathlib.Core.List.{List}
+use mathlib.Core.Bool.{not}
+use mathlib.Core.List.{List, [], _∷_}
+use mathlib.Core.Logic.{_⊎_, _↔_, Iff·rfl}
+use lib.Dec.{eqb}
 use lib.ListN.{length}
-use borrow.Author.Tests.{lt-ltb, le-ltb, eq-eqb, ne-eqb}
-use Rattle.ground.specs.Refusal.{ACCEPTED, LENGTH, OUTPUT-SHORT}
+use borrow.Author.Tests.{le-ltb, eq-eqb, ne-eqb}
+use Rattle.ground.specs.Answer.{short}
+use Rattle.ground.specs.Refusal.{ACCEPTED, LENGTH, OUTPUT-SHORT, Test, _gives_}
+use Rattle.ground.proofs.Exactly.{Decides, less-decides, equal-decides, not-decides, given-here, given-either, given-behind, fill-short-exactly}
 use Rattle.ts.specs.Packets.{count, packetizeNo, depacketizeNo}
 use Rattle.ts.specs.Stuffing.{stuffNo}
 use Rattle.ts.specs.Dispersal.{disperseNo}
 
-pub packetize-short : (s o : List ℕ) (n : ℕ) → n ≡ count (length s) → length o < 188 * n → packetizeNo s o ≡ OUTPUT-SHORT
-unfolding packetizeNo
-packetize-short s o n e h = rw (lt-ltb (length o) (188 * count (length s)) (subst (λ (x : ℕ). length o < 188 * x) e h))
+-- n bytes aren't whole packets
+ragged : (n : ℕ) → Decides (not (eqb (n % 188) 0)) (n % 188 ≡ 0 → ⊥) (n % 188 ≡ 0)
+ragged n = not-decides (equal-decides (n % 188) 0)
 
-pub packetize-accepted : (s o : List ℕ) (n : ℕ) → n ≡ count (length s) → 188 * n ≤ length o → packetizeNo s o ≡ ACCEPTED
-unfolding packetizeNo
-packetize-accepted s o n e h = rw (le-ltb (length o) (188 * count (length s)) (subst (λ (x : ℕ). 188 * x ≤ length o) e h))
+module _ (s out : List ℕ) where
+  pub packetize-accepted : (n : ℕ) → n ≡ count (length s) → 188 * n ≤ length out → packetizeNo s out ≡ ACCEPTED
+  unfolding packetizeNo
+  packetize-accepted n e h = rw (le-ltb (length out) (188 * count (length s)) (subst (λ (x : ℕ). 188 * x ≤ length out) e h))
 
-module _ (s o : List ℕ) where
-  pub depacketize-empty : length s ≡ 0 → depacketizeNo s o ≡ LENGTH
+  pub packetize-short-exactly : (packetizeNo s out ≡ OUTPUT-SHORT) ↔ (length out < 188 * count (length s))
+  unfolding packetizeNo
+  packetize-short-exactly = fill-short-exactly (188 * count (length s)) out
+
+  pub depacketize-accepted : (length s ≡ 0 → ⊥) → length s % 188 ≡ 0 → 187 * (length s / 188) ≤ length out → depacketizeNo s out ≡ ACCEPTED
   unfolding depacketizeNo
-  depacketize-empty h = rw (eq-eqb (length s) 0 h)
+  depacketize-accepted a b h = rw (ne-eqb (length s) 0 a, eq-eqb (length s % 188) 0 b, le-ltb (length out) (187 * (length s / 188)) h)
 
-  pub depacketize-ragged : (length s ≡ 0 → ⊥) → (length s % 188 ≡ 0 → ⊥) → depacketizeNo s o ≡ LENGTH
+  abbrev room : List Test
+  room = short (187 * (length s / 188)) out gives OUTPUT-SHORT ∷ []
+
+  abbrev behind : List Test
+  behind = not (eqb (length s % 188) 0) gives LENGTH ∷ room
+
+  pub depacketize-length-exactly : (depacketizeNo s out ≡ LENGTH) ↔ ((length s ≡ 0) ⊎ (length s % 188 ≡ 0 → ⊥))
   unfolding depacketizeNo
-  depacketize-ragged a b = rw (ne-eqb (length s) 0 a, ne-eqb (length s % 188) 0 b)
+  depacketize-length-exactly = given-either LENGTH behind (equal-decides (length s) 0) (given-here LENGTH room (ragged (length s)) tt)
 
-  pub depacketize-short : (length s ≡ 0 → ⊥) → length s % 188 ≡ 0 → length o < 187 * (length s / 188) → depacketizeNo s o ≡ OUTPUT-SHORT
+  pub depacketize-short-exactly : (depacketizeNo s out ≡ OUTPUT-SHORT) ↔ ((length s ≡ 0 → ⊥) × ((length s % 188 ≡ 0) × (length out < 187 * (length s / 188))))
   unfolding depacketizeNo
-  depacketize-short a b h = rw (ne-eqb (length s) 0 a, eq-eqb (length s % 188) 0 b, lt-ltb (length o) (187 * (length s / 188)) h)
+  depacketize-short-exactly =
+      given-behind LENGTH OUTPUT-SHORT behind (equal-decides (length s) 0) tt
+      (λ some. given-behind LENGTH OUTPUT-SHORT room (ragged (length s)) tt (λ whole. fill-short-exactly (187 * (length s / 188)) out))
 
-  pub depacketize-accepted : (length s ≡ 0 → ⊥) → length s % 188 ≡ 0 → 187 * (length s / 188) ≤ length o → depacketizeNo s o ≡ ACCEPTED
-  unfolding depacketizeNo
-  depacketize-accepted a b h = rw (ne-eqb (length s) 0 a, eq-eqb (length s % 188) 0 b, le-ltb (length o) (187 * (length s / 188)) h)
-
-module _ (used target : ℕ) (o : List ℕ) where
-  pub stuff-beyond : length o < used → stuffNo used target o ≡ LENGTH
+module _ (used target : ℕ) (ts : List ℕ) where
+  pub stuff-accepted : used ≤ length ts → used % 188 ≡ 0 → 188 * target ≤ length ts → stuffNo used target ts ≡ ACCEPTED
   unfolding stuffNo
-  stuff-beyond h = rw (lt-ltb (length o) used h)
+  stuff-accepted h m k = rw (le-ltb (length ts) used h, eq-eqb (used % 188) 0 m, le-ltb (length ts) (188 * target) k)
 
-  module _ (h : used ≤ length o) where
-    pub stuff-ragged : (used % 188 ≡ 0 → ⊥) → stuffNo used target o ≡ LENGTH
-    unfolding stuffNo
-    stuff-ragged m = rw (le-ltb (length o) used h, ne-eqb (used % 188) 0 m)
+  abbrev target-room : List Test
+  target-room = short (188 * target) ts gives OUTPUT-SHORT ∷ []
 
-    module _ (m : used % 188 ≡ 0) where
-      pub stuff-short : length o < 188 * target → stuffNo used target o ≡ OUTPUT-SHORT
-      unfolding stuffNo
-      stuff-short k = rw (le-ltb (length o) used h, eq-eqb (used % 188) 0 m, lt-ltb (length o) (188 * target) k)
+  abbrev behind-used : List Test
+  behind-used = not (eqb (used % 188) 0) gives LENGTH ∷ target-room
 
-      pub stuff-accepted : 188 * target ≤ length o → stuffNo used target o ≡ ACCEPTED
-      unfolding stuffNo
-      stuff-accepted k = rw (le-ltb (length o) used h, eq-eqb (used % 188) 0 m, le-ltb (length o) (188 * target) k)
+  pub stuff-length-exactly : (stuffNo used target ts ≡ LENGTH) ↔ ((length ts < used) ⊎ (used % 188 ≡ 0 → ⊥))
+  unfolding stuffNo
+  stuff-length-exactly = given-either LENGTH behind-used (less-decides (length ts) used) (given-here LENGTH target-room (ragged used) tt)
 
-pub disperse-ragged : (s : List ℕ) → (length s % 188 ≡ 0 → ⊥) → disperseNo s ≡ LENGTH
+  pub stuff-short-exactly : (stuffNo used target ts ≡ OUTPUT-SHORT) ↔ ((used ≤ length ts) × ((used % 188 ≡ 0) × (length ts < 188 * target)))
+  unfolding stuffNo
+  stuff-short-exactly =
+      given-behind LENGTH OUTPUT-SHORT behind-used (less-decides (length ts) used) tt
+      (λ inside. given-behind LENGTH OUTPUT-SHORT target-room (ragged used) tt (λ whole. fill-short-exactly (188 * target) ts))
+
+  pub stuff-taken : stuffNo used target ts ≡ ACCEPTED → (used ≤ length ts) × (used % 188 ≡ 0)
+  unfolding stuffNo
+  stuff-taken a =
+      let g = given-behind LENGTH ACCEPTED behind-used (less-decides (length ts) used) tt (λ inside. given-behind LENGTH ACCEPTED target-room (ragged used) tt (λ whole. Iff·rfl)) .0 a in
+      (g .0, g .1 .0)
+
+pub disperse-accepted : (packets : List ℕ) → length packets % 188 ≡ 0 → disperseNo packets ≡ ACCEPTED
 unfolding disperseNo
-disperse-ragged s h = rw (ne-eqb (length s % 188) 0 h)
+disperse-accepted packets h = rw (eq-eqb (length packets % 188) 0 h)
 
-pub disperse-accepted : (s : List ℕ) → length s % 188 ≡ 0 → disperseNo s ≡ ACCEPTED
+pub disperse-length-exactly : (packets : List ℕ) → (disperseNo packets ≡ LENGTH) ↔ (length packets % 188 ≡ 0 → ⊥)
 unfolding disperseNo
-disperse-accepted s h = rw (eq-eqb (length s % 188) 0 h)
+disperse-length-exactly packets = given-here LENGTH [] (ragged (length packets)) tt

@@ -1,6 +1,7 @@
 -- `ts::ts_depacketize` meets its contract: at each turn one payload more stands at the front of the output. Assumes nothing.
 use mathlib.Core.Path.{_≡_, refl, _∙_}
 use mathlib.Core.List.{List}
+use mathlib.Core.Logic.{inl, inr}
 use Prim.Native.Nat.{ℕ, _+_, _*_, _-_, _/_, _≤_}
 use native.Mathlib.Omega.{arith}
 use lib.ListN.{length, drop}
@@ -9,7 +10,7 @@ use Rattle.ground.specs.Chunks.{chunks}
 use Rattle.ground.proofs.Chunks.{chunks-next, chunks-end}
 use Rattle.ground.proofs.Front.{front}
 use Rattle.ts.proofs.Packets.{payloads-each, lent-payload}
-use Rattle.ts.proofs.Numbers.{depacketize-empty, depacketize-ragged, depacketize-short, depacketize-accepted}
+use Rattle.ts.proofs.Numbers.{depacketize-length-exactly, depacketize-short-exactly, depacketize-accepted}
 use borrow.Author.Needs.{needs}
 use Rattle.ts.proofs.ts_depacketize.Statement.{statement}
 use Rattle.ts.proofs.ts_depacketize.Tie as tie
@@ -26,16 +27,16 @@ abbrev μ-loop : tie.MeasureT-loop
 μ-loop packets out₀ n i₀ out i = n - i
 
 returns : tie.Need-returns Inv-loop μ-loop
-returns c = let a = c .before .before .before .args in rw (depacketize-empty (a .packets .now) (a .out .now) (c .if1 .taken)) (refl, refl)
+returns c = let a = c .before .before .before .args in rw (depacketize-length-exactly (a .packets .now) (a .out .now) .1 (inl (c .if1 .taken))) (refl, refl)
 
 returns-2 : tie.Need-returns-2 Inv-loop μ-loop
-returns-2 c = let a = c .before .before .before .before .args in rw (depacketize-ragged (a .packets .now) (a .out .now) (c .before .if1 .left) (c .if2 .taken)) (refl, refl)
+returns-2 c = let a = c .before .before .before .before .args in rw (depacketize-length-exactly (a .packets .now) (a .out .now) .1 (inr (c .if2 .taken))) (refl, refl)
 
 mul-if3 : tie.Need-mul-if3 Inv-loop μ-loop
 mul-if3 c = search needs
 
 returns-3 : tie.Need-returns-3 Inv-loop μ-loop
-returns-3 c = let a = c .before .before .before .before .before .args in rw (depacketize-short (a .packets .now) (a .out .now) (c .before .before .if1 .left) (c .before .if2 .left) (c .if3 .taken)) (refl, refl)
+returns-3 c = let a = c .before .before .before .before .before .args in rw (depacketize-short-exactly (a .packets .now) (a .out .now) .1 (c .before .before .if1 .left, (c .before .if2 .left, c .if3 .taken))) (refl, refl)
 
 loop-holds : tie.Need-loop-holds Inv-loop μ-loop
 loop-holds c = search needs

@@ -1,12 +1,12 @@
 -- `ts::ts_energy_disperse` meets its contract: it refuses before anything is written, or the packets are dispersed with the outputs of a group. Assumes nothing.
 use mathlib.Core.Path.{refl}
-use Rattle.ts.proofs.Numbers.{disperse-ragged, disperse-accepted}
+use Rattle.ts.proofs.Numbers.{disperse-length-exactly, disperse-accepted}
 use borrow.Author.Needs.{needs}
 use Rattle.ts.proofs.ts_energy_disperse.Statement.{statement}
 use Rattle.ts.proofs.ts_energy_disperse.Tie as tie
 
 returns : tie.Need-returns
-returns c = rw (disperse-ragged (c .before .before .args .packets .now) (c .if1 .taken)) (refl, refl)
+returns c = rw (disperse-length-exactly (c .before .before .args .packets .now) .1 (c .if1 .taken)) (refl, refl)
 
 slice-aggregate-fill-outputs : tie.Need-slice-aggregate-fill-outputs
 slice-aggregate-fill-outputs c = search needs

@@ -1,7 +1,7 @@
 -- `ts::ts_packetize` meets its contract: at each turn one packet more stands at the front of the output. Assumes nothing.
-use mathlib.Core.Path.{_≡_, refl, ap, _∙_}
+use mathlib.Core.Path.{_≡_, refl, ap, _∙_, subst}
 use mathlib.Core.List.{List}
-use Prim.Native.Nat.{ℕ, _+_, _*_, _-_, _≤_}
+use Prim.Native.Nat.{ℕ, _+_, _*_, _-_, _≤_, _<_}
 use native.Mathlib.Omega.{arith}
 use lib.ListN.{length}
 use borrow.Rule.Slice.PartMut.{same-len-mid}
@@ -11,7 +11,7 @@ use Rattle.ground.proofs.Chunks.{chunks-next, chunks-end}
 use Rattle.ground.proofs.Front.{front}
 use Rattle.ts.specs.Packets.{count, packet}
 use Rattle.ts.proofs.Packets.{packets-each, lent-chunk}
-use Rattle.ts.proofs.Numbers.{packetize-short, packetize-accepted}
+use Rattle.ts.proofs.Numbers.{packetize-short-exactly, packetize-accepted}
 use borrow.Author.Needs.{needs}
 use Rattle.ts.proofs.ts_packetize.Statement.{statement}
 use Rattle.ts.proofs.ts_packetize.Tie as tie
@@ -31,7 +31,10 @@ packets-for-requires : tie.Need-packets-for-requires Inv-loop μ-loop
 packets-for-requires c κs = search needs
 
 returns : tie.Need-returns Inv-loop μ-loop
-returns c = let a = c .before .before .before .before .args in let e = c .before .packets-for in rw (packetize-short (a .payload .now) (a .out .now) (e .result) (e .ensures) (omega (arith, c .if1 .taken))) (refl, refl)
+returns c =
+    let a = c .before .before .before .before .args in
+    let e = c .before .packets-for in
+    rw (packetize-short-exactly (a .payload .now) (a .out .now) .1 (subst (λ (n : ℕ). length (a .out .now) < 188 * n) (e .ensures) (omega (arith, c .if1 .taken)))) (refl, refl)
 
 loop-holds : tie.Need-loop-holds Inv-loop μ-loop
 loop-holds c = search needs

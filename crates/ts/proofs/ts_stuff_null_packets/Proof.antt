@@ -1,20 +1,21 @@
 -- `ts::ts_stuff_null_packets` meets its contract: it refuses or has nothing to add, or the part behind the bytes in use becomes null packets. Assumes nothing.
 use mathlib.Core.Path.{_≡_, refl, ap}
+use mathlib.Core.Logic.{inl, inr}
 use Prim.Native.Nat.{_*_, _-_, _≤_, max}
 use native.Mathlib.Omega.{arith}
 use lib.ListN.{length}
 use Rattle.ground.specs.declared.Counted.the-variants.{Count}
-use Rattle.ts.proofs.Numbers.{stuff-beyond, stuff-ragged, stuff-short, stuff-accepted}
+use Rattle.ts.proofs.Numbers.{stuff-length-exactly, stuff-short-exactly, stuff-accepted}
 use Rattle.ts.proofs.Stuffing.{stuffed-part, stuffed-none}
 use borrow.Author.Needs.{needs}
 use Rattle.ts.proofs.ts_stuff_null_packets.Statement.{statement}
 use Rattle.ts.proofs.ts_stuff_null_packets.Tie as tie
 
 returns : tie.Need-returns
-returns c = let a = c .before .before .args in rw (stuff-beyond (a .used) (a .target) (a .ts .now) (c .if1 .taken)) (refl, refl)
+returns c = let a = c .before .before .args in rw (stuff-length-exactly (a .used) (a .target) (a .ts .now) .1 (inl (c .if1 .taken))) (refl, refl)
 
 returns-2 : tie.Need-returns-2
-returns-2 c = let a = c .before .before .before .args in rw (stuff-ragged (a .used) (a .target) (a .ts .now) (c .before .if1 .left) (c .if2 .taken)) (refl, refl)
+returns-2 c = let a = c .before .before .before .args in rw (stuff-length-exactly (a .used) (a .target) (a .ts .now) .1 (inr (c .if2 .taken))) (refl, refl)
 
 returns-3 : tie.Need-returns-3
 returns-3 c =
@@ -24,7 +25,7 @@ returns-3 c =
     rw (stuff-accepted (a .used) (a .target) (a .ts .now) (c .before .before .if1 .left) m (omega arith)) (ap Count y, stuffed-none (a .used) (a .target) (a .ts .now) m (c .if3 .taken))
 
 returns-4 : tie.Need-returns-4
-returns-4 c = let a = c .before .before .before .before .before .args in rw (stuff-short (a .used) (a .target) (a .ts .now) (c .before .before .before .if1 .left) (c .before .before .if2 .left) (omega arith)) (refl, refl)
+returns-4 c = let a = c .before .before .before .before .before .args in rw (stuff-short-exactly (a .used) (a .target) (a .ts .now) .1 (c .before .before .before .if1 .left, (c .before .before .if2 .left, omega arith))) (refl, refl)
 
 mul-end : tie.Need-mul-end
 mul-end c = search needs
