@@ -2,19 +2,20 @@
 -- signs, and it has read the bits. Assumes nothing.
 use mathlib.Core.Path.{_≡_, refl, sym, ap, _∙_}
 use mathlib.Core.Bool.{Bool, true, false}
-use mathlib.Core.Logic.{inl}
 use mathlib.Core.List.{List, [], _∷_, _++_, map}
 use Prim.Native.Nat.{ℕ, suc, _+_, _<_}
 use native.Mathlib.Omega.{arith}
 use lib.Ieee.{Float}
 use lib.ListN.{length, take, set, length-set}
 use lib.Seq.{take-suc-set}
+use Rattle.carriers.specs.Mode.{Mode}
 use Rattle.tps.specs.declared.sender.TpsEncoder.{TpsEncoder}
 use Rattle.tps.specs.declared.receiver.TpsDecoder.{TpsDecoder}
+use Rattle.tps.specs.Word.{SYMBOLS}
 use Rattle.tps.specs.Send.{signCell, freshEncoder}
 use Rattle.tps.specs.Receive.{freshDecoder}
 use Rattle.tps.specs.Frame.{readBits}
-use Rattle.tps.proofs.SignRows.{start-signs, Signs}
+use Rattle.tps.proofs.SignRows.{TpsFacts, start-signs, Signs}
 
 abbrev begun : List ℕ → Bool
 begun [] = false
@@ -26,17 +27,17 @@ Previous [] e d = Unit {0}
 Previous (b ∷ bs) e d = d .prev ≡ map signCell (e .signs)
 
 -- after the bits bs, newest first
-pub record FrameHolds (bs : List ℕ) (e : TpsEncoder) (d : TpsDecoder) : Type 0 where
-  pub signs : Signs (e .signs)
+pub record FrameHolds (m : Mode) (bs : List ℕ) (e : TpsEncoder) (d : TpsDecoder) : Type 0 where
+  pub signs : Signs (m .tpsCount) (e .signs)
   pub started : e .started ≡ begun bs
   pub previous : Previous bs e d
   pub count : d .count ≡ length bs
-  pub size : length (d .bits) ≡ 68
+  pub size : length (d .bits) ≡ SYMBOLS
   pub read : take (length bs) (d .bits) ≡ readBits bs
 
-pub holds-at-start : FrameHolds [] freshEncoder freshDecoder
+pub holds-at-start : (m : Mode) → TpsFacts m → FrameHolds m [] (freshEncoder m) (freshDecoder m)
 unfolding readBits
-holds-at-start = record { signs = inl start-signs; started = refl; previous = tt; count = refl; size = refl; read = refl }
+holds-at-start m f = record { signs = start-signs m f; started = refl; previous = tt; count = refl; size = refl; read = refl }
 
 abbrev pub sender : List Float → TpsEncoder
 sender s = record { signs = s; started = true }
@@ -45,9 +46,9 @@ abbrev pub receiver : List Float → TpsDecoder → ℕ → TpsDecoder
 receiver s d v = record { prev = map signCell s; bits = set (d .bits) (d .count) v; count = d .count + 1 }
 
 -- one symbol more, with the signs s and the bit v
-pub holds-next : (bs : List ℕ) (e : TpsEncoder) (d : TpsDecoder) (bit v : ℕ) (s : List Float) → FrameHolds bs e d → length bs < 68 → Signs s
-    → readBits (bit ∷ bs) ≡ readBits bs ++ (v ∷ []) → FrameHolds (bit ∷ bs) (sender s) (receiver s d v)
-holds-next bs e d bit v s h l k r =
+pub holds-next : (m : Mode) (bs : List ℕ) (e : TpsEncoder) (d : TpsDecoder) (bit v : ℕ) (s : List Float) → FrameHolds m bs e d → length bs < SYMBOLS
+    → Signs (m .tpsCount) s → readBits (bit ∷ bs) ≡ readBits bs ++ (v ∷ []) → FrameHolds m (bit ∷ bs) (sender s) (receiver s d v)
+holds-next m bs e d bit v s h l k r =
     record {
       signs = k;
       started = refl;

@@ -4,6 +4,7 @@ pub mod Packing
 pub mod Unpacking
 pub mod Determined
 pub mod RoundTrip
+pub mod Sums
 pub mod SignRows
 pub mod Sending
 pub mod FirstCells

@@ -17,18 +17,18 @@ use Rattle.tps.specs.declared.word.TpsWord.{TpsWord}
 use Rattle.tps.specs.declared.word.Unpacked.{Unpacked}
 use Rattle.tps.specs.declared.word.Unpacked.the-variants.{Word, Refused}
 use Rattle.tps.specs.Codes.{wordOf}
-use Rattle.tps.specs.Word.{wordBits, codesIn}
+use Rattle.tps.specs.Word.{SYMBOLS, wordBits, codesIn}
 
 -- ---- packing
 
 abbrev pub packNo : List ℕ → ℕ
-packNo out = fillNo 68 out
+packNo out = fillNo SYMBOLS out
 
 abbrev pub packAnswer : List ℕ → Counted
-packAnswer out = fillAnswer 68 out
+packAnswer out = fillAnswer SYMBOLS out
 
 abbrev pub packLeaves : TpsWord → List ℕ → List ℕ
-packLeaves w out = fillLeaves 68 (wordBits w) out
+packLeaves w out = fillLeaves SYMBOLS (wordBits w) out
 
 -- ---- unpacking
 
@@ -41,7 +41,7 @@ numberOf (Refused k) = k
 abbrev pub unpackNo : List ℕ → ℕ
 unpackNo bits =
     firstOf
-    (not (eqb (length bits) 68) gives LENGTH
+    (not (eqb (length bits) SYMBOLS) gives LENGTH
     ∷ not (areBits bits) gives NOT-A-BIT
     ∷ [])
 

@@ -1,4 +1,4 @@
--- Document 01, 'TPS', receiving; EN 300 744, 4.6.3: symbol 0 gives bit 0; later the bit is 1 when the sum over 17
+-- Document 01, 'TPS', receiving; EN 300 744, 4.6.3: symbol 0 gives bit 0; later the bit is 1 when the sum over the TPS
 -- carriers of re*prev.re - im*(-prev.im) is below zero, summed in order from +0.0 in f32. A NaN sum gives 0. A 69th
 -- symbol is FULL.
 use mathlib.Core.Path.{_≡_}
@@ -13,12 +13,14 @@ use Rattle.ground.specs.Answer.{kept, short, fillNo, fillAnswer, fillLeaves}
 use Rattle.ground.specs.declared.Cell.{Cell}
 use Rattle.ground.specs.declared.Counted.{Counted}
 use Rattle.ground.specs.Cells.{cellAt, plusZero, zeroCell}
+use Rattle.carriers.specs.Mode.{Mode, tpsSize}
 use Rattle.tps.specs.declared.receiver.TpsDecoder.{TpsDecoder}
 use Rattle.tps.specs.declared.receiver.TpsBit.{TpsBit}
 use Rattle.tps.specs.declared.receiver.TpsBit.the-variants.{Bit, Refused}
 use Rattle.tps.specs.declared.receiver.Fed.{Fed}
 use Rattle.tps.specs.declared.word.Unpacked.{Unpacked}
 use Rattle.tps.specs.declared.word.Unpacked.the-variants as unpacked
+use Rattle.tps.specs.Word.{SYMBOLS}
 use Rattle.tps.specs.Packing.{numberOf, Unpacks, unpackAnswer}
 
 -- the first n cells of a lent slice, re and im in turn
@@ -40,17 +42,6 @@ correlation zero cells prev = plusZero
 correlation (suc k) cells prev =
     add binary32 (correlation k cells prev) (product (getD cells k noCell) (getD prev k noCell))
 
--- the bit of the symbol that is fed when n stand
-unfoldable pub bitOf : ℕ → List Cell → List Cell → ℕ
-bitOf n cells prev = cond (eqb n 0) 0 (cond (lt (correlation 17 cells prev) plusZero) 1 0)
-
-abbrev pub freshDecoder : TpsDecoder
-freshDecoder = record { prev = replicate 17 zeroCell; bits = replicate 68 0; count = 0 }
-
--- a count above 68 is treated as 68, so that it is FULL
-abbrev pub feedNo : TpsDecoder → List Float → ℕ
-feedNo d cells = firstOf (short 34 cells gives LENGTH ∷ leb 68 (d .count) gives FULL ∷ [])
-
 -- document 01's number and the bit, for each case of an answer
 abbrev pub bitNumber : TpsBit → ℕ
 bitNumber (Bit b) = ACCEPTED
@@ -65,28 +56,45 @@ abbrev pub bitAnswer : ℕ → ℕ → TpsBit
 bitAnswer zero b = Bit b
 bitAnswer (suc k) b = Refused (suc k)
 
-abbrev pub fedBit : TpsDecoder → List Float → ℕ
-fedBit d cells = bitOf (d .count) (firstCells 17 cells) (d .prev)
+module _ (m : Mode) where
+  -- the bit of the symbol that is fed when n stand
+  unfoldable pub bitOf : ℕ → List Cell → List Cell → ℕ
+  bitOf n cells prev = cond (eqb n 0) 0 (cond (lt (correlation (m .tpsCount) cells prev) plusZero) 1 0)
 
--- what feeding a symbol answers, with the receiver after it
-abbrev pub feedAnswer : TpsDecoder → List Float → Fed
-feedAnswer d cells =
-    record {
-      answer = bitAnswer (feedNo d cells) (fedBit d cells);
-      decoder =
-          kept (feedNo d cells)
-          (record { prev = firstCells 17 cells; bits = set (d .bits) (d .count) (fedBit d cells); count = d .count + 1 }) d;
-    }
+  abbrev pub freshDecoder : TpsDecoder
+  freshDecoder = record { prev = replicate (m .tpsCount) zeroCell; bits = replicate SYMBOLS 0; count = 0 }
+
+  -- a count above 68 is treated as 68, so that it is FULL
+  abbrev pub feedNo : TpsDecoder → List Float → ℕ
+  feedNo d cells = firstOf (short (tpsSize m) cells gives LENGTH ∷ leb SYMBOLS (d .count) gives FULL ∷ [])
+
+  abbrev pub fedBit : TpsDecoder → List Float → ℕ
+  fedBit d cells = bitOf (d .count) (firstCells (m .tpsCount) cells) (d .prev)
+
+  -- what feeding a symbol answers, with the receiver after it
+  abbrev pub feedAnswer : TpsDecoder → List Float → Fed
+  feedAnswer d cells =
+      record {
+        answer = bitAnswer (feedNo d cells) (fedBit d cells);
+        decoder =
+            kept (feedNo d cells)
+            (record {
+              prev = firstCells (m .tpsCount) cells;
+              bits = set (d .bits) (d .count) (fedBit d cells);
+              count = d .count + 1;
+            })
+            d;
+      }
 
 -- ---- the received bits
 
 -- how many symbols stand: a count above 68 is treated as 68
 abbrev pub standing : TpsDecoder → ℕ
-standing d = min 68 (d .count)
+standing d = min SYMBOLS (d .count)
 
 -- the bits with n standing: the first n, each at most 1, and 0 behind them
 unfoldable pub heldBits : ℕ → List ℕ → List ℕ
-heldBits n bits = map (min 1) (take n bits) ++ replicate (68 - n) 0
+heldBits n bits = map (min 1) (take n bits) ++ replicate (SYMBOLS - n) 0
 
 -- s0.., one for each symbol that stands; a held bit above 1 is treated as 1
 abbrev pub receivedBits : TpsDecoder → List ℕ
@@ -106,7 +114,7 @@ bitsLeaves d out = fillLeaves (standing d) (receivedBits d) out
 
 -- with fewer than 68 standing
 abbrev pub wordNo : TpsDecoder → ℕ
-wordNo d = firstOf (ltb (d .count) 68 gives INCOMPLETE ∷ [])
+wordNo d = firstOf (ltb (d .count) SYMBOLS gives INCOMPLETE ∷ [])
 
 -- the answer to a call for the word: that of unpacking the held bits, one above 1 treated as 1
 abbrev pub WordsBy : ℕ → TpsDecoder → Unpacked → Type 0

@@ -10,6 +10,10 @@ use Rattle.tps.specs.declared.word.TpsWord.{TpsWord}
 use Rattle.tps.specs.declared.inner.Codes.{Codes}
 use Rattle.tps.specs.Codes.{codesOf}
 
+-- the symbols of a frame, and the bits of its word: one each
+abbrev pub SYMBOLS : ℕ
+SYMBOLS = 68
+
 -- 4.6.2.2: 0x35EE for an even frame number, 0xCA11 for odd
 abbrev pub syncOf : ℕ → ℕ
 syncOf frame = cond (eqb (frame % 2) 0) 0x35EE 0xCA11

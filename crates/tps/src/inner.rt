@@ -2,9 +2,12 @@
 ghost use mathlib.Core.Path.{_≡_};
 ghost use Prim.Native.Nat.{_≤_, min};
 ghost use lib.ListN.{length};
+ghost use Rattle.carriers.specs.Mode.{mode2k, tpsSize};
 ghost use Rattle.tps.specs.Codes.{constellationCode, constellationOf, rateCode, rateOf, guardCode, guardOf};
 ghost use Rattle.tps.specs.Codes.{codesOf, wordOf};
+ghost use Rattle.tps.specs.Word.{SYMBOLS};
 ghost use Rattle.tps.specs.Receive.{firstCells, heldBits};
+use super::TPS_SYMBOLS_PER_FRAME;
 use super::word::GuardInterval;
 use super::word::PunctureRate;
 use super::word::TpsWord;
@@ -159,19 +162,23 @@ pub fn word_of(codes: Codes) -> Unpacked
 
 // How many symbols stand, a count above 68 counting as 68.
 pub fn standing_count(count: usize) -> usize
-    ensures { λ r. ⌜ r ≡ min 68 count ⌝ }
+    ensures { λ r. ⌜ r ≡ min SYMBOLS count ⌝ }
 {
-    if count < 68 { count } else { 68 }
+    if count < TPS_SYMBOLS_PER_FRAME {
+        count
+    } else {
+        TPS_SYMBOLS_PER_FRAME
+    }
 }
 
-// The first 17 cells.
-pub fn first_cells(cells: &[f32]) -> [Cell; 17]
-    requires { ⌜ 34 ≤ length (now cells) ⌝ }
-    ensures { λ r. ⌜ r ≡ firstCells 17 (now (cells .entry)) ⌝ }
+// The first cells of a slice, one for each TPS carrier.
+pub fn first_cells(cells: &[f32]) -> [Cell; carriers::TPS_CARRIER_COUNT]
+    requires { ⌜ tpsSize mode2k ≤ length (now cells) ⌝ }
+    ensures { λ r. ⌜ r ≡ firstCells (mode2k .tpsCount) (now (cells .entry)) ⌝ }
 {
-    let mut first = [Cell { re: 0.0, im: 0.0 }; 17];
+    let mut first = [Cell { re: 0.0, im: 0.0 }; carriers::TPS_CARRIER_COUNT];
     let mut k: usize = 0;
-    while k < 17 {
+    while k < carriers::TPS_CARRIER_COUNT {
         first[k] = ground::inner::cell_at(cells, k);
         k += 1;
     }
@@ -179,11 +186,11 @@ pub fn first_cells(cells: &[f32]) -> [Cell; 17]
 }
 
 // The first n bits as they are held, one above 1 counting as 1, and 0 behind them.
-pub fn held_bits(bits: [u8; 68], n: usize) -> [u8; 68]
-    requires { ⌜ n ≤ 68 ⌝ }
+pub fn held_bits(bits: [u8; TPS_SYMBOLS_PER_FRAME], n: usize) -> [u8; TPS_SYMBOLS_PER_FRAME]
+    requires { ⌜ n ≤ SYMBOLS ⌝ }
     ensures { λ r. ⌜ r ≡ heldBits n bits ⌝ }
 {
-    let mut held = [0u8; 68];
+    let mut held = [0u8; TPS_SYMBOLS_PER_FRAME];
     let mut i = 0;
     while i < n {
         held[i] = if bits[i] == 0 { 0 } else { 1 };

@@ -4,18 +4,21 @@ ghost use Prim.Native.Nat.{_≤_};
 ghost use lib.ListN.{length};
 ghost use Rattle.ground.specs.Answer.{written};
 ghost use Rattle.ground.specs.Cells.{flat};
+ghost use Rattle.carriers.specs.Mode.{mode2k, tpsSize};
 ghost use Rattle.tps.specs.Receive.{firstCells, correlation, bitOf, feedAnswer};
 ghost use Rattle.tps.specs.Lent.{lentDecoder, lentFed};
+use super::TPS_SYMBOLS_PER_FRAME;
 use super::receiver::TpsBit;
 
 // The sum of the carriers' products with the previous symbol's, in order from +0.0, each operation rounded once.
 fn correlate(cells: &[f32], prev: &[f32]) -> f32
-    requires { ⌜ (34 ≤ length (now cells)) × (34 ≤ length (now prev)) ⌝ }
-    ensures { λ r. ⌜ r ≡ correlation 17 (firstCells 17 (now (cells .entry))) (firstCells 17 (now (prev .entry))) ⌝ }
+    requires { ⌜ (tpsSize mode2k ≤ length (now cells)) × (tpsSize mode2k ≤ length (now prev)) ⌝ }
+    ensures { λ r. ⌜ r ≡ correlation (mode2k .tpsCount)
+        (firstCells (mode2k .tpsCount) (now (cells .entry))) (firstCells (mode2k .tpsCount) (now (prev .entry))) ⌝ }
 {
     let mut sum = 0.0f32;
     let mut k: usize = 0;
-    while k < 17 {
+    while k < carriers::TPS_CARRIER_COUNT {
         let a = ground::inner::cell_at(cells, k);
         let b = ground::inner::cell_at(prev, k);
         sum = sum + (a.re * b.re - a.im * (-b.im));
@@ -26,8 +29,9 @@ fn correlate(cells: &[f32], prev: &[f32]) -> f32
 
 // The bit of the symbol that is fed when count symbols stand.
 fn tps_bit(count: usize, cells: &[f32], prev: &[f32]) -> u8
-    requires { ⌜ (34 ≤ length (now cells)) × (34 ≤ length (now prev)) ⌝ }
-    ensures { λ r. ⌜ r ≡ bitOf count (firstCells 17 (now (cells .entry))) (firstCells 17 (now (prev .entry))) ⌝ }
+    requires { ⌜ (tpsSize mode2k ≤ length (now cells)) × (tpsSize mode2k ≤ length (now prev)) ⌝ }
+    ensures { λ r. ⌜ r ≡ bitOf mode2k count
+        (firstCells (mode2k .tpsCount) (now (cells .entry))) (firstCells (mode2k .tpsCount) (now (prev .entry))) ⌝ }
 {
     if count == 0 {
         return 0;
@@ -39,29 +43,33 @@ fn tps_bit(count: usize, cells: &[f32], prev: &[f32]) -> u8
     0
 }
 
-// The first 17 cells, written to the lent receiver's.
+// The symbol's cells, written to the lent receiver's.
 fn put_cells(cells: &[f32], prev: &mut [f32])
-    requires { ⌜ (34 ≤ length (now cells)) × (34 ≤ length (now prev)) ⌝ }
-    ensures { λ _. ⌜ now (prev .exit) ≡ written (flat (firstCells 17 (now (cells .entry)))) (now (prev .entry)) ⌝ }
+    requires { ⌜ (tpsSize mode2k ≤ length (now cells)) × (tpsSize mode2k ≤ length (now prev)) ⌝ }
+    ensures { λ _. ⌜ now (prev .exit)
+        ≡ written (flat (firstCells (mode2k .tpsCount) (now (cells .entry)))) (now (prev .entry)) ⌝ }
 {
-    ground::inner::copy_cells(&cells[..34], &mut prev[..34]);
+    ground::inner::copy_cells(
+        &cells[..carriers::TPS_FLOATS],
+        &mut prev[..carriers::TPS_FLOATS],
+    );
 }
 
 // The bit of one symbol's cells, re and im in turn, in rising active order (EN 300 744, 4.6.3).
 pub fn feed_symbol(
-    prev: &mut [f32; 34],
-    bits: &mut [u8; 68],
+    prev: &mut [f32; carriers::TPS_FLOATS],
+    bits: &mut [u8; TPS_SYMBOLS_PER_FRAME],
     count: &mut usize,
     cells: &[f32],
 ) -> TpsBit
-    ensures { λ r. ⌜ lentFed r (now (prev .exit)) (now (bits .exit)) (now (count .exit)) ≡ feedAnswer
-        (lentDecoder (now (prev .entry)) (now (bits .entry)) (now (count .entry))) (now (cells .entry)) ⌝ }
+    ensures { λ r. ⌜ lentFed mode2k r (now (prev .exit)) (now (bits .exit)) (now (count .exit)) ≡ feedAnswer mode2k
+        (lentDecoder mode2k (now (prev .entry)) (now (bits .entry)) (now (count .entry))) (now (cells .entry)) ⌝ }
 {
-    if cells.len() < 34 {
+    if cells.len() < carriers::TPS_FLOATS {
         return TpsBit::Refused(ground::LENGTH);
     }
     let n = *count;
-    if 68 <= n {
+    if TPS_SYMBOLS_PER_FRAME <= n {
         return TpsBit::Refused(ground::FULL);
     }
     let bit = tps_bit(n, cells, prev);

@@ -5,6 +5,9 @@ pub mod receiver;
 pub mod sender;
 pub mod word;
 
+// The symbols of a frame, and the bits of its word: one each (EN 300 744, 4.6.2).
+pub const TPS_SYMBOLS_PER_FRAME: usize = 68;
+
 pub use receiver::Fed;
 pub use receiver::TpsBit;
 pub use receiver::TpsDecoder;

@@ -1,7 +1,10 @@
 // The receiver: the bits of a frame's symbols, and the word of 68 of them (EN 300 744, 4.6.3).
 ghost use mathlib.Core.Path.{_≡_};
 ghost use lib.Dec.{leb};
+ghost use Rattle.carriers.specs.Mode.{mode2k};
+ghost use Rattle.tps.specs.Word.{SYMBOLS};
 ghost use Rattle.tps.specs.Receive.{correlation, bitOf, freshDecoder, feedAnswer, bitsAnswer, bitsLeaves, Words};
+use super::TPS_SYMBOLS_PER_FRAME;
 use super::inner;
 use super::word::TpsWord;
 use super::word::Unpacked;
@@ -12,8 +15,8 @@ use ground::Counted;
 // a held bit above 1 as 1.
 #[repr(C)]
 pub struct TpsDecoder {
-    pub prev: [Cell; 17],
-    pub bits: [u8; 68],
+    pub prev: [Cell; carriers::TPS_CARRIER_COUNT],
+    pub bits: [u8; TPS_SYMBOLS_PER_FRAME],
     pub count: usize,
 }
 
@@ -30,12 +33,15 @@ pub struct Fed {
 }
 
 // The sum of the carriers' products with the previous symbol's, in order from +0.0, each operation rounded once.
-fn correlate(cells: [Cell; 17], prev: [Cell; 17]) -> f32
-    ensures { λ r. ⌜ r ≡ correlation 17 cells prev ⌝ }
+fn correlate(
+    cells: [Cell; carriers::TPS_CARRIER_COUNT],
+    prev: [Cell; carriers::TPS_CARRIER_COUNT],
+) -> f32
+    ensures { λ r. ⌜ r ≡ correlation (mode2k .tpsCount) cells prev ⌝ }
 {
     let mut sum = 0.0f32;
     let mut k: usize = 0;
-    while k < 17 {
+    while k < carriers::TPS_CARRIER_COUNT {
         let a = cells[k];
         let b = prev[k];
         sum = sum + (a.re * b.re - a.im * (-b.im));
@@ -45,8 +51,12 @@ fn correlate(cells: [Cell; 17], prev: [Cell; 17]) -> f32
 }
 
 // The bit of the symbol that is fed when count symbols stand.
-fn tps_bit(count: usize, cells: [Cell; 17], prev: [Cell; 17]) -> u8
-    ensures { λ r. ⌜ r ≡ bitOf count cells prev ⌝ }
+fn tps_bit(
+    count: usize,
+    cells: [Cell; carriers::TPS_CARRIER_COUNT],
+    prev: [Cell; carriers::TPS_CARRIER_COUNT],
+) -> u8
+    ensures { λ r. ⌜ r ≡ bitOf mode2k count cells prev ⌝ }
 {
     if count == 0 {
         return 0;
@@ -61,34 +71,34 @@ fn tps_bit(count: usize, cells: [Cell; 17], prev: [Cell; 17]) -> u8
 impl TpsDecoder {
     // A receiver at the start of a frame.
     pub fn new() -> Self
-        ensures { λ r. ⌜ r ≡ freshDecoder ⌝ }
+        ensures { λ r. ⌜ r ≡ freshDecoder mode2k ⌝ }
     {
         Self {
-            prev: [Cell { re: 0.0, im: 0.0 }; 17],
-            bits: [0u8; 68],
+            prev: [Cell { re: 0.0, im: 0.0 }; carriers::TPS_CARRIER_COUNT],
+            bits: [0u8; TPS_SYMBOLS_PER_FRAME],
             count: 0,
         }
     }
 
     // The receiver at the start of a frame again.
     pub fn reset(self) -> Self
-        ensures { λ r. ⌜ r ≡ freshDecoder ⌝ }
+        ensures { λ r. ⌜ r ≡ freshDecoder mode2k ⌝ }
     {
         Self::new()
     }
 
     // The bit of one symbol's cells, re and im in turn, in rising active order (EN 300 744, 4.6.3).
     pub fn feed_symbol(self, cells: &[f32]) -> Fed
-        ensures { λ r. ⌜ r ≡ feedAnswer self (now (cells .entry)) ⌝ }
+        ensures { λ r. ⌜ r ≡ feedAnswer mode2k self (now (cells .entry)) ⌝ }
     {
-        if cells.len() < 34 {
+        if cells.len() < carriers::TPS_FLOATS {
             return Fed {
                 answer: TpsBit::Refused(ground::LENGTH),
                 decoder: self,
             };
         }
         let count = self.count;
-        if 68 <= count {
+        if TPS_SYMBOLS_PER_FRAME <= count {
             return Fed {
                 answer: TpsBit::Refused(ground::FULL),
                 decoder: self,
@@ -111,9 +121,9 @@ impl TpsDecoder {
 
     // Whether 68 symbols stand.
     pub fn is_complete(self) -> bool
-        ensures { λ r. ⌜ r ≡ leb 68 (self .count) ⌝ }
+        ensures { λ r. ⌜ r ≡ leb SYMBOLS (self .count) ⌝ }
     {
-        68 <= self.count
+        TPS_SYMBOLS_PER_FRAME <= self.count
     }
 
     // The received bits s0.., one for each symbol that stands, written to the lent output.
@@ -126,7 +136,7 @@ impl TpsDecoder {
             return Counted::Refused(ground::OUTPUT_SHORT);
         }
         let bits = self.bits;
-        let held = inner::held_bits(bits, 68);
+        let held = inner::held_bits(bits, TPS_SYMBOLS_PER_FRAME);
         ground::inner::copy(&held[..standing], &mut out[..standing]);
         Counted::Count(standing)
     }
@@ -135,11 +145,11 @@ impl TpsDecoder {
     pub fn word(self) -> Unpacked
         ensures { λ r. ⌜ Words self r ⌝ }
     {
-        if self.count < 68 {
+        if self.count < TPS_SYMBOLS_PER_FRAME {
             return Unpacked::Refused(ground::INCOMPLETE);
         }
         let bits = self.bits;
-        let held = inner::held_bits(bits, 68);
+        let held = inner::held_bits(bits, TPS_SYMBOLS_PER_FRAME);
         TpsWord::unpack(&held)
     }
 }

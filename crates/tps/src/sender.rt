@@ -6,6 +6,7 @@ ghost use lib.Ieee.{neg};
 ghost use lib.ListN.{length};
 ghost use Rattle.ground.specs.Answer.{written};
 ghost use Rattle.ground.specs.Cells.{flat};
+ghost use Rattle.carriers.specs.Mode.{mode2k, tpsSize};
 ghost use Rattle.tps.specs.Send.{signCell, startSigns, freshEncoder, signsOf, sendAnswer, sendLeaves};
 use ground::Cell;
 use ground::Counted;
@@ -13,7 +14,7 @@ use ground::Counted;
 // The sender: each carrier's sign, and whether the frame's first symbol is sent.
 #[repr(C)]
 pub struct TpsEncoder {
-    pub signs: [f32; 17],
+    pub signs: [f32; carriers::TPS_CARRIER_COUNT],
     pub started: bool,
 }
 
@@ -23,9 +24,9 @@ pub struct Sent {
     pub encoder: TpsEncoder,
 }
 
-// The signs of w at the 17 TPS carriers (EN 300 744, 4.6.3).
-fn tps_reference_signs() -> [f32; 17]
-    ensures { λ r. ⌜ r ≡ startSigns ⌝ }
+// The signs of w at the TPS carriers (EN 300 744, 4.6.3).
+fn tps_reference_signs() -> [f32; carriers::TPS_CARRIER_COUNT]
+    ensures { λ r. ⌜ r ≡ startSigns mode2k ⌝ }
 {
     [
         1.0,
@@ -49,25 +50,25 @@ fn tps_reference_signs() -> [f32; 17]
 }
 
 // All signs turned.
-fn turned(signs: [f32; 17]) -> [f32; 17]
+fn turned(signs: [f32; carriers::TPS_CARRIER_COUNT]) -> [f32; carriers::TPS_CARRIER_COUNT]
     ensures { λ r. ⌜ r ≡ map neg signs ⌝ }
 {
-    let mut other = [0.0f32; 17];
+    let mut other = [0.0f32; carriers::TPS_CARRIER_COUNT];
     let mut k: usize = 0;
-    while k < 17 {
+    while k < carriers::TPS_CARRIER_COUNT {
         other[k] = -signs[k];
         k += 1;
     }
     other
 }
 
-// The 17 cells of the signs, written to the lent output.
-fn put_signs(signs: [f32; 17], out: &mut [f32])
-    requires { ⌜ 34 ≤ length (now out) ⌝ }
+// The cells of the signs, written to the lent output.
+fn put_signs(signs: [f32; carriers::TPS_CARRIER_COUNT], out: &mut [f32])
+    requires { ⌜ tpsSize mode2k ≤ length (now out) ⌝ }
     ensures { λ r. ⌜ now (out .exit) ≡ written (flat (map signCell signs)) (now (out .entry)) ⌝ }
 {
     let mut k: usize = 0;
-    while k < 17 {
+    while k < carriers::TPS_CARRIER_COUNT {
         let re = signs[k];
         ground::inner::put_cell(out, k, Cell { re, im: 0.0 });
         k += 1;
@@ -77,7 +78,7 @@ fn put_signs(signs: [f32; 17], out: &mut [f32])
 impl TpsEncoder {
     // A sender at the start of a frame.
     pub fn new() -> Self
-        ensures { λ r. ⌜ r ≡ freshEncoder ⌝ }
+        ensures { λ r. ⌜ r ≡ freshEncoder mode2k ⌝ }
     {
         let signs = tps_reference_signs();
         Self {
@@ -88,14 +89,14 @@ impl TpsEncoder {
 
     // The sender at the start of a frame again.
     pub fn reset(self) -> Self
-        ensures { λ r. ⌜ r ≡ freshEncoder ⌝ }
+        ensures { λ r. ⌜ r ≡ freshEncoder mode2k ⌝ }
     {
         Self::new()
     }
 
     // The signs with which the next bit is sent (EN 300 744, 4.6.3).
-    fn next_signs(self, bit: u8) -> [f32; 17]
-        ensures { λ r. ⌜ r ≡ signsOf self bit ⌝ }
+    fn next_signs(self, bit: u8) -> [f32; carriers::TPS_CARRIER_COUNT]
+        ensures { λ r. ⌜ r ≡ signsOf mode2k self bit ⌝ }
     {
         let signs = self.signs;
         if !self.started {
@@ -107,10 +108,10 @@ impl TpsEncoder {
         signs
     }
 
-    // The 17 cells of the next symbol, in rising active order, written to the lent output (EN 300 744, 4.6.3).
+    // The cells of the next symbol, in rising active order, written to the lent output (EN 300 744, 4.6.3).
     pub fn next_symbol(self, bit: u8, out: &mut [f32]) -> Sent
-        ensures answer { λ r. ⌜ r ≡ sendAnswer self bit (now (out .entry)) ⌝ }
-        ensures output { λ r. ⌜ now (out .exit) ≡ sendLeaves self bit (now (out .entry)) ⌝ }
+        ensures answer { λ r. ⌜ r ≡ sendAnswer mode2k self bit (now (out .entry)) ⌝ }
+        ensures output { λ r. ⌜ now (out .exit) ≡ sendLeaves mode2k self bit (now (out .entry)) ⌝ }
     {
         if 1 < bit {
             return Sent {
@@ -118,7 +119,7 @@ impl TpsEncoder {
                 encoder: self,
             };
         }
-        if out.len() < 34 {
+        if out.len() < carriers::TPS_FLOATS {
             return Sent {
                 answer: Counted::Refused(ground::OUTPUT_SHORT),
                 encoder: self,
@@ -127,7 +128,7 @@ impl TpsEncoder {
         let signs = self.next_signs(bit);
         put_signs(signs, out);
         Sent {
-            answer: Counted::Count(17),
+            answer: Counted::Count(carriers::TPS_CARRIER_COUNT),
             encoder: TpsEncoder {
                 signs,
                 started: true,

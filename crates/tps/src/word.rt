@@ -6,6 +6,7 @@ ghost use Rattle.ground.specs.Bits.{Bits};
 ghost use Rattle.ground.specs.Digits.{valueOf};
 ghost use Rattle.tps.specs.Word.{syncOf, informationOf, codesIn};
 ghost use Rattle.tps.specs.Packing.{packAnswer, packLeaves, Unpacks};
+use super::TPS_SYMBOLS_PER_FRAME;
 use super::inner;
 use super::inner::Codes;
 use ground::ConstellationOrder;
@@ -95,22 +96,22 @@ impl TpsWord {
         ensures answer { λ r. ⌜ r ≡ packAnswer (now (out .entry)) ⌝ }
         ensures output { λ r. ⌜ now (out .exit) ≡ packLeaves self (now (out .entry)) ⌝ }
     {
-        if out.len() < 68 {
+        if out.len() < TPS_SYMBOLS_PER_FRAME {
             return Counted::Refused(ground::OUTPUT_SHORT);
         }
         let information = self.information();
         let parity = bch::inner::parity_of(information);
         out[0] = 0;
         ground::inner::put_digits(information, &mut out[1..54]);
-        ground::inner::put_digits(parity, &mut out[54..68]);
-        Counted::Count(68)
+        ground::inner::put_digits(parity, &mut out[54..TPS_SYMBOLS_PER_FRAME]);
+        Counted::Count(TPS_SYMBOLS_PER_FRAME)
     }
 
     // The word of the codeword within distance two of s1..s67 (EN 300 744, 4.6.2).
     pub fn unpack(bits: &[u8]) -> Unpacked
         ensures { λ r. ⌜ Unpacks (now (bits .entry)) r ⌝ }
     {
-        if bits.len() != 68 {
+        if bits.len() != TPS_SYMBOLS_PER_FRAME {
             return Unpacked::Refused(ground::LENGTH);
         }
         if 1 < bits[0] {

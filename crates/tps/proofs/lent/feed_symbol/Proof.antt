@@ -1,5 +1,6 @@
 -- `tps::lent::feed_symbol` meets its contract: the tests give the number, and the callees the bit and the cells.
 -- Assumes nothing.
+use Rattle.carriers.specs.Mode.{mode2k}
 use Rattle.tps.specs.Lent.{lentDecoder}
 use Rattle.tps.proofs.Receiving.{feed-length, feed-full, lent-bit}
 use borrow.Author.Needs.{needs}
@@ -9,12 +10,12 @@ use Rattle.tps.proofs.lent.feed_symbol.Tie as tie
 returns : tie.Need-returns
 returns c =
     let z = c .before .before .args in
-    feed-length (lentDecoder (z .prev .now) (z .bits .now) (z .count .now)) (z .cells .now) (c .if1 .taken)
+    feed-length mode2k (lentDecoder mode2k (z .prev .now) (z .bits .now) (z .count .now)) (z .cells .now) (c .if1 .taken)
 
 returns-2 : tie.Need-returns-2
 returns-2 c =
     let z = c .before .before .before .before .args in
-    feed-full (lentDecoder (z .prev .now) (z .bits .now) (z .count .now)) (z .cells .now) (c .before .before .if1 .left) (c .if2 .taken)
+    feed-full mode2k (lentDecoder mode2k (z .prev .now) (z .bits .now) (z .count .now)) (z .cells .now) (c .before .before .if1 .left) (c .if2 .taken)
 
 tps-bit-requires : tie.Need-tps-bit-requires
 tps-bit-requires c κs = search needs
@@ -32,7 +33,7 @@ returns-3 : tie.Need-returns-3
 returns-3 c =
     let z = c .before .before .before .before .before .before .before .before .before .args in
     let bit = c .before .before .tps-bit in
-    lent-bit (z .prev .now) (z .bits .now) (z .count .now) (z .cells .now) (c .before .before .before .before .before .before .before .if1 .left)
+    lent-bit mode2k (z .prev .now) (z .bits .now) (z .count .now) (z .cells .now) (c .before .before .before .before .before .before .before .if1 .left)
     (c .before .before .before .before .before .if2 .left) (bit .result) (c .put-cells .last .1 .0) (bit .ensures) (c .put-cells .ensures)
 
 pub feed-symbol-spec : {M : Type 1} → statement M

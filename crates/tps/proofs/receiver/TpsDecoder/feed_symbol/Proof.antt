@@ -1,15 +1,16 @@
 -- `tps::receiver::TpsDecoder::feed_symbol` meets its contract: the tests give the number, and the callees the cells
 -- and the bit. Assumes nothing.
+use Rattle.carriers.specs.Mode.{mode2k}
 use Rattle.tps.proofs.Receiving.{feed-length, feed-full, feed-bit}
 use borrow.Author.Needs.{needs}
 use Rattle.tps.proofs.receiver.TpsDecoder.feed_symbol.Statement.{statement}
 use Rattle.tps.proofs.receiver.TpsDecoder.feed_symbol.Tie as tie
 
 returns : tie.Need-returns
-returns c = let z = c .before .before .args in feed-length (z .self) (z .cells .now) (c .if1 .taken)
+returns c = let z = c .before .before .args in feed-length mode2k (z .self) (z .cells .now) (c .if1 .taken)
 
 returns-2 : tie.Need-returns-2
-returns-2 c = let z = c .before .before .before .args in feed-full (z .self) (z .cells .now) (c .before .if1 .left) (c .if2 .taken)
+returns-2 c = let z = c .before .before .before .args in feed-full mode2k (z .self) (z .cells .now) (c .before .if1 .left) (c .if2 .taken)
 
 first-cells-requires : tie.Need-first-cells-requires
 first-cells-requires c κs = search needs
@@ -28,7 +29,7 @@ returns-3 c =
     let z = c .before .before .before .before .before .before .before .args in
     let cells = c .before .before .before .first-cells in
     let bit = c .before .tps-bit in
-    feed-bit (z .self) (z .cells .now) (c .before .before .before .before .before .if1 .left) (c .before .before .before .before .if2 .left) (cells .result) (bit .result) (cells .ensures) (bit .ensures)
+    feed-bit mode2k (z .self) (z .cells .now) (c .before .before .before .before .before .if1 .left) (c .before .before .before .before .if2 .left) (cells .result) (bit .result) (cells .ensures) (bit .ensures)
 
 pub feed-symbol-spec : {M : Type 1} → statement M
 feed-symbol-spec =
