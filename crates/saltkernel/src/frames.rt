@@ -2,6 +2,8 @@
 ghost use mathlib.Core.Path.{_≡_};
 ghost use mathlib.Core.Bool.{cond};
 ghost use lib.Dec.{leb};
+ghost use Rattle.carriers.specs.Mode.{mode2k};
+ghost use Rattle.tps.specs.Word.{SYMBOLS};
 ghost use Rattle.tps.specs.Send.{freshEncoder, sendAnswer, sendLeaves};
 ghost use Rattle.tps.specs.Receive.{freshDecoder, feedAnswer, bitsAnswer, bitsLeaves, Words};
 ghost use Rattle.tps.specs.Lent.{lentDecoder};
@@ -52,7 +54,7 @@ fn bit_numbers_of(answer: TpsBit) -> SaltTpsBit
 // A sender at the start of a frame.
 #[no_mangle]
 pub extern "C" fn salt_tps_encoder_new() -> TpsEncoder
-    ensures { λ r. ⌜ r ≡ freshEncoder ⌝ }
+    ensures { λ r. ⌜ r ≡ freshEncoder mode2k ⌝ }
 {
     TpsEncoder::new()
 }
@@ -60,7 +62,7 @@ pub extern "C" fn salt_tps_encoder_new() -> TpsEncoder
 // The sender at the start of a frame again.
 #[no_mangle]
 pub extern "C" fn salt_tps_encoder_reset(encoder: TpsEncoder) -> TpsEncoder
-    ensures { λ r. ⌜ r ≡ freshEncoder ⌝ }
+    ensures { λ r. ⌜ r ≡ freshEncoder mode2k ⌝ }
 {
     encoder.reset()
 }
@@ -74,8 +76,8 @@ pub extern "C" fn salt_tps_encoder_next_symbol(
     bit: u8,
     out: &mut [f32],
 ) -> SaltSent
-    ensures answer { λ r. ⌜ SaysSent r (sendAnswer encoder bit (now (out .entry))) ⌝ }
-    ensures output { λ _. ⌜ now (out .exit) ≡ sendLeaves encoder bit (now (out .entry)) ⌝ }
+    ensures answer { λ r. ⌜ SaysSent r (sendAnswer mode2k encoder bit (now (out .entry))) ⌝ }
+    ensures output { λ _. ⌜ now (out .exit) ≡ sendLeaves mode2k encoder bit (now (out .entry)) ⌝ }
 {
     let sent = encoder.next_symbol(bit, out);
     let answer = sent.answer;
@@ -89,7 +91,7 @@ pub extern "C" fn salt_tps_encoder_next_symbol(
 // A receiver at the start of a frame.
 #[no_mangle]
 pub extern "C" fn salt_tps_decoder_new() -> TpsDecoder
-    ensures { λ r. ⌜ r ≡ freshDecoder ⌝ }
+    ensures { λ r. ⌜ r ≡ freshDecoder mode2k ⌝ }
 {
     TpsDecoder::new()
 }
@@ -97,7 +99,7 @@ pub extern "C" fn salt_tps_decoder_new() -> TpsDecoder
 // The receiver at the start of a frame again.
 #[no_mangle]
 pub extern "C" fn salt_tps_decoder_reset(decoder: TpsDecoder) -> TpsDecoder
-    ensures { λ r. ⌜ r ≡ freshDecoder ⌝ }
+    ensures { λ r. ⌜ r ≡ freshDecoder mode2k ⌝ }
 {
     decoder.reset()
 }
@@ -107,7 +109,7 @@ pub extern "C" fn salt_tps_decoder_reset(decoder: TpsDecoder) -> TpsDecoder
 // Refusals: 1 LENGTH (fewer than 34 floats), 6 FULL.
 #[no_mangle]
 pub extern "C" fn salt_tps_decoder_feed_symbol(decoder: TpsDecoder, cells: &[f32]) -> SaltTpsFed
-    ensures { λ r. ⌜ SaysFed r (feedAnswer decoder (now (cells .entry))) ⌝ }
+    ensures { λ r. ⌜ SaysFed r (feedAnswer mode2k decoder (now (cells .entry))) ⌝ }
 {
     let fed = decoder.feed_symbol(cells);
     let answer = fed.answer;
@@ -137,10 +139,12 @@ pub extern "C" fn salt_tps_decoder_feed_in_place(
     count: &mut usize,
     cells: &[f32],
 ) -> SaltTpsBit
-    ensures answer { λ r. ⌜ SaysBit r (feedAnswer
-        (lentDecoder (now (prev .entry)) (now (bits .entry)) (now (count .entry))) (now (cells .entry)) .answer) ⌝ }
-    ensures decoder { λ _. ⌜ lentDecoder (now (prev .exit)) (now (bits .exit)) (now (count .exit)) ≡ feedAnswer
-        (lentDecoder (now (prev .entry)) (now (bits .entry)) (now (count .entry))) (now (cells .entry)) .decoder ⌝ }
+    ensures answer { λ r. ⌜ SaysBit r (feedAnswer mode2k
+        (lentDecoder mode2k (now (prev .entry)) (now (bits .entry)) (now (count .entry)))
+        (now (cells .entry)) .answer) ⌝ }
+    ensures decoder { λ _. ⌜ lentDecoder mode2k (now (prev .exit)) (now (bits .exit)) (now (count .exit))
+        ≡ feedAnswer mode2k (lentDecoder mode2k (now (prev .entry)) (now (bits .entry)) (now (count .entry)))
+        (now (cells .entry)) .decoder ⌝ }
 {
     bit_numbers_of(tps::lent::feed_symbol(prev, bits, count, cells))
 }
@@ -148,7 +152,7 @@ pub extern "C" fn salt_tps_decoder_feed_in_place(
 // 1 where 68 symbols stand, else 0.
 #[no_mangle]
 pub extern "C" fn salt_tps_decoder_is_complete(decoder: TpsDecoder) -> u8
-    ensures { λ r. ⌜ r ≡ cond (leb 68 (decoder .count)) 1 0 ⌝ }
+    ensures { λ r. ⌜ r ≡ cond (leb SYMBOLS (decoder .count)) 1 0 ⌝ }
 {
     if decoder.is_complete() { 1 } else { 0 }
 }
