@@ -8,8 +8,8 @@ pub mod Sums
 pub mod SignRows
 pub mod Sending
 pub mod FirstCells
-pub mod Receiving
 pub mod StandingBits
+pub mod Receiving
 pub mod FrameState
 pub mod Symbols
 pub mod Frame

@@ -5,8 +5,8 @@ use mathlib.Core.List.{List, [], _∷_, _++_, map, map-append, append-nil}
 use Prim.Native.Nat.{ℕ, suc, _+_, _-_, _<_, _≤_, min}
 use native.Mathlib.Numerals.{add-one}
 use native.Mathlib.Omega.{arith}
-use lib.ListN.{length, getD, take, drop, set, replicate, length-take, length-map}
-use lib.Seq.{take-suc, take-all, length-take-le, set-at, append-snoc}
+use lib.ListN.{length, getD, take, drop, set, replicate, length-append, length-take, length-map, length-replicate, length-set}
+use lib.Seq.{take-suc, take-all, take-at, take-set-le, getD-set-same, length-take-le, set-at, append-snoc}
 use borrow.Author.Tests.{lt-ltb, le-ltb}
 use Rattle.ground.specs.Refusal.{ACCEPTED, OUTPUT-SHORT, INCOMPLETE}
 use Rattle.ground.specs.declared.Counted.the-variants as counts
@@ -15,8 +15,23 @@ use Rattle.ground.proofs.Answers.{written-front, fill-refused, fill-accepted}
 use Rattle.tps.specs.declared.receiver.TpsDecoder.{TpsDecoder}
 use Rattle.tps.specs.declared.word.Unpacked.{Unpacked}
 use Rattle.tps.specs.declared.word.Unpacked.the-variants.{Refused}
+use Rattle.tps.specs.Word.{SYMBOLS}
 use Rattle.tps.specs.Packing.{Unpacks}
 use Rattle.tps.specs.Receive.{standing, heldBits, receivedBits, bitsAnswer, bitsLeaves, wordNo, WordsBy, Words}
+
+-- ---- bits as they are held
+
+min-bit : (b : ℕ) → b < 2 → min 1 b ≡ b
+min-bit b h = omega arith
+
+-- bits are held as they are
+pub bits-held : (bs : List ℕ) → Bits bs → map (min 1) bs ≡ bs
+bits-held [] h = refl
+bits-held (b ∷ bs) h = ap₂ (λ (x : ℕ) (l : List ℕ). x ∷ l) (min-bit b (h .0)) (bits-held bs (h .1))
+
+pub held-are-bits : (bs : List ℕ) → Bits (map (min 1) bs)
+held-are-bits [] = tt
+held-are-bits (b ∷ bs) = (omega arith, held-are-bits bs)
 
 -- one bit more is held
 pub standing-bit-next : (bits : List ℕ) (i : ℕ) → length bits ≡ 68 → i < 68 → set (heldBits i bits) i (min 1 (getD bits i 0)) ≡ heldBits (i + 1) bits
@@ -30,17 +45,42 @@ standing-bit-next bits i z h =
     rw (e, add-one i, take-suc bits i 0 l, map-append)
     (set-at first 0 rest (min 1 (getD bits i 0)) i k ∙ sym (append-snoc first (min 1 (getD bits i 0)) rest))
 
+same : (n : ℕ) (a b : List ℕ) → map (min 1) (take n a) ≡ map (min 1) (take n b) → heldBits n a ≡ heldBits n b
+unfolding heldBits
+same n a b e = ap (λ (l : List ℕ). l ++ replicate (SYMBOLS - n) 0) e
+
+module _ (bits : List ℕ) (n : ℕ) (z : length bits ≡ SYMBOLS) (h : n ≤ SYMBOLS) where
+  first-length : length (map (min 1) (take n bits)) ≡ n
+  first-length = simp (length-map, length-take) (omega arith)
+
+  pub held-length : length (heldBits n bits) ≡ SYMBOLS
+  unfolding heldBits
+  held-length =
+      length-append (map (min 1) (take n bits)) (replicate (SYMBOLS - n) 0) ∙ omega (arith, first-length, length-replicate {0} {A = ℕ} (SYMBOLS - n) 0)
+
+  pub held-first : take n (heldBits n bits) ≡ map (min 1) (take n bits)
+  unfolding heldBits
+  held-first = take-at (map (min 1) (take n bits)) (replicate (SYMBOLS - n) 0) n first-length
+
+  -- a bit behind the held ones leaves them
+  held-before : (v : ℕ) → heldBits n (set (heldBits n bits) n v) ≡ heldBits n bits
+  held-before v = rest (set (heldBits n bits) n v) (take-set-le n (heldBits n bits) n v (omega arith) ∙ held-first)
+    where
+      rest : (l : List ℕ) → take n l ≡ map (min 1) (take n bits) → heldBits n l ≡ heldBits n bits
+      rest l e = same n l bits (ap (map (min 1)) e ∙ bits-held (map (min 1) (take n bits)) (held-are-bits (take n bits)))
+
+-- and is held with them
+pub held-next : (bits : List ℕ) (n v : ℕ) → length bits ≡ SYMBOLS → n < SYMBOLS → min 1 v ≡ v
+    → heldBits (n + 1) (set (heldBits n bits) n v) ≡ set (heldBits n bits) n v
+held-next bits n v z h e =
+    let k : length (heldBits n bits) ≡ SYMBOLS = held-length bits n z (omega arith) in
+    sym (standing-bit-next (set (heldBits n bits) n v) n (length-set (heldBits n bits) n v ∙ k) h)
+    ∙ ap₂ (λ (x : List ℕ) (w : ℕ). set x n w) (held-before bits n z (omega arith) v)
+    (ap (min 1) (getD-set-same (heldBits n bits) n v 0 (omega (arith, k))) ∙ e)
+
 pub all-bits-stand : (bits : List ℕ) → length bits ≡ 68 → heldBits 68 bits ≡ map (min 1) bits
 unfolding heldBits
 all-bits-stand bits z = append-nil (map (min 1) (take 68 bits)) ∙ ap (map (min 1)) (take-all 68 bits (omega arith))
-
-min-bit : (b : ℕ) → b < 2 → min 1 b ≡ b
-min-bit b h = omega arith
-
--- bits are held as they are
-pub bits-held : (bs : List ℕ) → Bits bs → map (min 1) bs ≡ bs
-bits-held [] h = refl
-bits-held (b ∷ bs) h = ap₂ (λ (x : ℕ) (l : List ℕ). x ∷ l) (min-bit b (h .0)) (bits-held bs (h .1))
 
 -- ---- a call for the bits, where n symbols stand
 

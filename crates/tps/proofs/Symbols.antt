@@ -19,7 +19,7 @@ use Rattle.tps.specs.declared.receiver.TpsDecoder.{TpsDecoder}
 use Rattle.tps.specs.declared.receiver.Fed.{Fed}
 use Rattle.tps.specs.Word.{SYMBOLS}
 use Rattle.tps.specs.Send.{startSigns, signCell, freshEncoder, signsOf, sendNo}
-use Rattle.tps.specs.Receive.{firstCells, bitOf}
+use Rattle.tps.specs.Receive.{firstCells, heldBits, bitOf}
 use Rattle.tps.specs.Frame.{Symbol, Frame, readBits}
 use Rattle.tps.specs.Frame.Frame.{start, next}
 use Rattle.tps.proofs.Sending.{send-accepted}
@@ -69,7 +69,7 @@ module _ (m : Mode) (bit : ℕ) (e e′ : TpsEncoder) (d d′ : TpsDecoder) (y :
         ∙ ap (λ (b : ℕ). receiver signs d b) ev
       where
         fedOn : ℕ → List Cell → TpsDecoder
-        fedOn n c = kept n (record { prev = c; bits = set (d .bits) (d .count) (bitOf m (d .count) c (d .prev)); count = d .count + 1 }) d
+        fedOn n c = kept n (record { prev = c; bits = set (heldBits (d .count) (d .bits)) (d .count) (bitOf m (d .count) c (d .prev)); count = d .count + 1 }) d
 
 -- ---- the first symbol, and a later one
 
@@ -93,26 +93,26 @@ module _ (m : Mode) where
     -- the receiver reads v of the bit's signs
     read-one : (bs : List ℕ) (bit : ℕ) (e e′ : TpsEncoder) (d d′ : TpsDecoder) → length bs < SYMBOLS → FrameHolds m bs e d → Symbol m bit e d e′ d′
         → Signs (m .tpsCount) (signsOf m e bit) → (v : ℕ) → bitOf m (d .count) (map signCell (signsOf m e bit)) (d .prev) ≡ v
-        → readBits (bit ∷ bs) ≡ readBits bs ++ (v ∷ []) → FrameHolds m (bit ∷ bs) e′ d′
-    read-one bs bit e e′ d d′ l h y k v ev r =
+        → v < 2 → readBits (bit ∷ bs) ≡ readBits bs ++ (v ∷ []) → FrameHolds m (bit ∷ bs) e′ d′
+    read-one bs bit e e′ d d′ l h y k v ev vb r =
         subst (λ (x : TpsEncoder). FrameHolds m (bit ∷ bs) x d′) (sym (sent-sender m bit e e′ d d′ y))
         (subst (λ (x : TpsDecoder). FrameHolds m (bit ∷ bs) (sender (signsOf m e bit)) x)
         (sym (fed-receiver m bit e e′ d d′ y (k .0) (omega (arith, h .count)) v ev))
-        (holds-next m bs e d bit v (signsOf m e bit) h l k r))
+        (holds-next m bs e d bit v (signsOf m e bit) h l k vb r))
 
     one-symbol : (bs : List ℕ) (bit : ℕ) (e e′ : TpsEncoder) (d d′ : TpsDecoder) → length bs < SYMBOLS → FrameHolds m bs e d → Symbol m bit e d e′ d′
         → FrameHolds m (bit ∷ bs) e′ d′
     unfolding readBits
     one-symbol [] bit e e′ d d′ l h y =
         read-one [] bit e e′ d d′ l h y (subst (Signs (m .tpsCount)) (sym (first-signs e bit (h .started))) (start-signs m facts)) 0
-        (first-bit (d .count) (map signCell (signsOf m e bit)) (d .prev) (h .count)) refl
+        (first-bit (d .count) (map signCell (signsOf m e bit)) (d .prev) (h .count)) (omega arith) refl
     one-symbol (c ∷ bs) bit e e′ d d′ l h y =
         let f = later-signs e bit (h .started) in
         let t = bit-of-rows m facts (e .signs) bit (y .isBit) (h .signs) in
         read-one (c ∷ bs) bit e e′ d d′ l h y (subst (Signs (m .tpsCount)) (sym f) (t .0)) bit
         (later-bit (d .count) (signsOf m e bit) (e .signs) (d .prev) bit (λ z. absurd (omega (arith, h .count, z))) (h .previous)
         (ap (λ (s : List Float). bitOfRows (m .tpsCount) s (e .signs)) f ∙ t .1))
-        refl
+        (y .isBit) refl
 
     -- ---- a frame
 

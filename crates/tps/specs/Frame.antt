@@ -13,7 +13,8 @@ use Rattle.tps.specs.Send.{freshEncoder, sendAnswer, sendLeaves}
 use Rattle.tps.specs.Receive.{freshDecoder, feedAnswer}
 
 -- one symbol: the bit is sent into an output with room for its cells, and what is left there is fed
-pub record Symbol (m : Mode) (bit : ℕ) (e : TpsEncoder) (d : TpsDecoder) (e′ : TpsEncoder) (d′ : TpsDecoder) : Type 0 where
+pub record Symbol (m : Mode) (bit : ℕ) (e : TpsEncoder) (d : TpsDecoder) (e′ : TpsEncoder) (d′ : TpsDecoder)
+    : Type 0 where
   pub out : List Float
   pub left : List Float
   pub sent : Sent

@@ -56,6 +56,10 @@ abbrev pub bitAnswer : ℕ → ℕ → TpsBit
 bitAnswer zero b = Bit b
 bitAnswer (suc k) b = Refused (suc k)
 
+-- the bits with n standing: the first n, each at most 1, and 0 behind them
+unfoldable pub heldBits : ℕ → List ℕ → List ℕ
+heldBits n bits = map (min 1) (take n bits) ++ replicate (SYMBOLS - n) 0
+
 module _ (m : Mode) where
   -- the bit of the symbol that is fed when n stand
   unfoldable pub bitOf : ℕ → List Cell → List Cell → ℕ
@@ -71,7 +75,7 @@ module _ (m : Mode) where
   abbrev pub fedBit : TpsDecoder → List Float → ℕ
   fedBit d cells = bitOf (d .count) (firstCells (m .tpsCount) cells) (d .prev)
 
-  -- what feeding a symbol answers, with the receiver after it
+  -- what feeding a symbol answers, with the receiver after it: its bit stands behind those that stood
   abbrev pub feedAnswer : TpsDecoder → List Float → Fed
   feedAnswer d cells =
       record {
@@ -80,7 +84,7 @@ module _ (m : Mode) where
             kept (feedNo d cells)
             (record {
               prev = firstCells (m .tpsCount) cells;
-              bits = set (d .bits) (d .count) (fedBit d cells);
+              bits = set (heldBits (d .count) (d .bits)) (d .count) (fedBit d cells);
               count = d .count + 1;
             })
             d;
@@ -91,10 +95,6 @@ module _ (m : Mode) where
 -- how many symbols stand: a count above 68 is treated as 68
 abbrev pub standing : TpsDecoder → ℕ
 standing d = min SYMBOLS (d .count)
-
--- the bits with n standing: the first n, each at most 1, and 0 behind them
-unfoldable pub heldBits : ℕ → List ℕ → List ℕ
-heldBits n bits = map (min 1) (take n bits) ++ replicate (SYMBOLS - n) 0
 
 -- s0.., one for each symbol that stands; a held bit above 1 is treated as 1
 abbrev pub receivedBits : TpsDecoder → List ℕ

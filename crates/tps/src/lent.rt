@@ -8,6 +8,7 @@ ghost use Rattle.carriers.specs.Mode.{mode2k, tpsSize};
 ghost use Rattle.tps.specs.Receive.{firstCells, correlation, bitOf, feedAnswer};
 ghost use Rattle.tps.specs.Lent.{lentDecoder, lentFed};
 use super::TPS_SYMBOLS_PER_FRAME;
+use super::inner;
 use super::receiver::TpsBit;
 
 // The sum of the carriers' products with the previous symbol's, in order from +0.0, each operation rounded once.
@@ -74,6 +75,7 @@ pub fn feed_symbol(
     }
     let bit = tps_bit(n, cells, prev);
     put_cells(cells, prev);
+    *bits = inner::held_bits(*bits, n);
     bits[n] = bit;
     *count = n + 1;
     TpsBit::Bit(bit)

@@ -12,7 +12,7 @@ use ground::Cell;
 use ground::Counted;
 
 // The receiver: the previous symbol's cells, the bits, and how many symbols stand. A count above 68 is read as 68, and
-// a held bit above 1 as 1.
+// a held bit above 1 as 1, which a feed makes it; it makes bits that don't stand 0.
 #[repr(C)]
 pub struct TpsDecoder {
     pub prev: [Cell; carriers::TPS_CARRIER_COUNT],
@@ -107,13 +107,14 @@ impl TpsDecoder {
         let first = inner::first_cells(cells);
         let prev = self.prev;
         let bit = tps_bit(count, first, prev);
-        let mut bits = self.bits;
-        bits[count] = bit;
+        let bits = self.bits;
+        let mut held = inner::held_bits(bits, count);
+        held[count] = bit;
         Fed {
             answer: TpsBit::Bit(bit),
             decoder: TpsDecoder {
                 prev: first,
-                bits,
+                bits: held,
                 count: count + 1,
             },
         }

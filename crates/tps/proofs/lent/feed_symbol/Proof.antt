@@ -23,6 +23,9 @@ tps-bit-requires c κs = search needs
 put-cells-requires : tie.Need-put-cells-requires
 put-cells-requires c κs = search needs
 
+held-bits-requires : tie.Need-held-bits-requires
+held-bits-requires c κs = search needs
+
 element-write-bits : tie.Need-element-write-bits
 element-write-bits c = search needs
 
@@ -31,10 +34,11 @@ add-count c = search needs
 
 returns-3 : tie.Need-returns-3
 returns-3 c =
-    let z = c .before .before .before .before .before .before .before .before .before .args in
-    let bit = c .before .before .tps-bit in
-    lent-bit mode2k (z .prev .now) (z .bits .now) (z .count .now) (z .cells .now) (c .before .before .before .before .before .before .before .if1 .left)
-    (c .before .before .before .before .before .if2 .left) (bit .result) (c .put-cells .last .1 .0) (bit .ensures) (c .put-cells .ensures)
+    let z = c .before .before .before .before .before .before .before .before .before .before .before .args in
+    let bit = c .before .before .before .before .tps-bit in
+    let put = c .before .before .put-cells in
+    lent-bit mode2k (z .prev .now) (z .bits .now) (z .count .now) (z .cells .now) (c .before .before .before .before .before .before .before .before .before .if1 .left)
+    (c .before .before .before .before .before .before .before .if2 .left) (bit .result) (put .last .1 .0) (c .held-bits .result) (bit .ensures) (put .ensures) (c .held-bits .ensures)
 
 pub feed-symbol-spec : {M : Type 1} → statement M
 feed-symbol-spec =
@@ -44,6 +48,7 @@ feed-symbol-spec =
     returns-2
     tps-bit-requires
     put-cells-requires
+    held-bits-requires
     element-write-bits
     add-count
     returns-3)

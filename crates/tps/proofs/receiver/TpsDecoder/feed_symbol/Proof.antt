@@ -18,18 +18,21 @@ first-cells-requires c κs = search needs
 tps-bit-requires : tie.Need-tps-bit-requires
 tps-bit-requires c κs = search needs
 
-array-write-bits : tie.Need-array-write-bits
-array-write-bits c = search needs
+held-bits-requires : tie.Need-held-bits-requires
+held-bits-requires c κs = search needs
 
-add-t8 : tie.Need-add-t8
-add-t8 c = search needs
+array-write-held : tie.Need-array-write-held
+array-write-held c = search needs
+
+add-t9 : tie.Need-add-t9
+add-t9 c = search needs
 
 returns-3 : tie.Need-returns-3
 returns-3 c =
-    let z = c .before .before .before .before .before .before .before .args in
-    let cells = c .before .before .before .first-cells in
-    let bit = c .before .tps-bit in
-    feed-bit mode2k (z .self) (z .cells .now) (c .before .before .before .before .before .if1 .left) (c .before .before .before .before .if2 .left) (cells .result) (bit .result) (cells .ensures) (bit .ensures)
+    let z = c .before .before .before .before .before .before .before .before .args in
+    let cells = c .before .before .before .before .first-cells in
+    let bit = c .before .before .tps-bit in
+    feed-bit mode2k (z .self) (z .cells .now) (c .before .before .before .before .before .before .if1 .left) (c .before .before .before .before .before .if2 .left) (cells .result) (bit .result) (c .held-bits .result) (cells .ensures) (bit .ensures) (c .held-bits .ensures)
 
 pub feed-symbol-spec : {M : Type 1} → statement M
 feed-symbol-spec =
@@ -39,6 +42,7 @@ feed-symbol-spec =
     returns-2
     first-cells-requires
     tps-bit-requires
-    array-write-bits
-    add-t8
+    held-bits-requires
+    array-write-held
+    add-t9
     returns-3)
