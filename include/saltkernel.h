@@ -451,7 +451,7 @@ typedef struct SaltSent {
 
 /*
  * The receiver: the previous symbol's cells, the bits, and how many symbols stand. A count above 68 is read as 68, and
- * a held bit above 1 as 1.
+ * a held bit above 1 as 1, which a feed makes it; it makes bits that don't stand 0.
  */
 typedef struct SaltTpsDecoder {
     SaltCell prev[17];
