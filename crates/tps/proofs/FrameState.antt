@@ -1,7 +1,6 @@
 -- Sender and receiver agree after the bits of some symbols: the receiver's previous cells are those of the sender's
 -- signs, and it has read the bits. Assumes nothing.
 use mathlib.Core.Path.{_≡_, refl, sym, ap, _∙_, subst}
-use mathlib.Core.Bool.{Bool, true, false}
 use mathlib.Core.List.{List, [], _∷_, _++_, map}
 use Prim.Native.Nat.{ℕ, suc, _+_, _<_, min}
 use native.Mathlib.Omega.{arith}
@@ -20,9 +19,9 @@ use Rattle.tps.specs.Frame.{readBits}
 use Rattle.tps.proofs.StandingBits.{held-length, held-first, bits-held}
 use Rattle.tps.proofs.SignRows.{TpsFacts, start-signs, Signs}
 
-abbrev begun : List ℕ → Bool
-begun [] = false
-begun (b ∷ bs) = true
+abbrev begun : List ℕ → ℕ
+begun [] = 0
+begun (b ∷ bs) = 1
 
 -- the previous cells are the sender's, from the first symbol on
 abbrev Previous : List ℕ → TpsEncoder → TpsDecoder → Type 0
@@ -44,7 +43,7 @@ unfolding readBits
 holds-at-start m f = record { signs = start-signs m f; started = refl; previous = tt; count = refl; size = refl; read = refl; bits = tt }
 
 abbrev pub sender : List Float → TpsEncoder
-sender s = record { signs = s; started = true }
+sender s = record { signs = s; started = 1 }
 
 abbrev pub receiver : List Float → TpsDecoder → ℕ → TpsDecoder
 receiver s d v = record { prev = map signCell s; bits = set (heldBits (d .count) (d .bits)) (d .count) v; count = d .count + 1 }

@@ -1,6 +1,5 @@
 -- The answers of sending, by the tests of a call. Assumes nothing.
 use mathlib.Core.Path.{_≡_, refl}
-use mathlib.Core.Bool.{true}
 use mathlib.Core.List.{List, map}
 use Prim.Native.Nat.{ℕ, _<_, _≤_}
 use lib.Ieee.{Float}
@@ -27,5 +26,5 @@ module _ (m : Mode) (e : TpsEncoder) (bit : ℕ) (o : List Float) where
       send-accepted = simp (le-ltb 1 bit h, le-ltb (length o) (tpsSize m) l) refl
 
       pub send-written : (signs : List Float) → signs ≡ signsOf m e bit → (a : List Float) → a ≡ written (flat (map signCell signs)) o
-          → (record { answer = Count (m .tpsCount); encoder = record { signs = signs; started = true } } ≡ sendAnswer m e bit o) × (a ≡ sendLeaves m e bit o)
+          → (record { answer = Count (m .tpsCount); encoder = record { signs = signs; started = 1 } } ≡ sendAnswer m e bit o) × (a ≡ sendLeaves m e bit o)
       send-written signs es a ea = (simp (es, send-accepted) refl, simp (ea, es, send-accepted) refl)

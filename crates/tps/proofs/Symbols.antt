@@ -1,6 +1,5 @@
 -- One symbol more, sent and fed, is one bit more: the first symbol, a later one, and so a frame. Assumes nothing.
 use mathlib.Core.Path.{_≡_, refl, sym, ap, ap₂, _∙_, subst}
-use mathlib.Core.Bool.{true, false}
 use mathlib.Core.List.{List, [], _∷_, _++_, map}
 use Prim.Native.Nat.{ℕ, _+_, _<_, _≤_}
 use native.Mathlib.Omega.{arith}
@@ -74,10 +73,10 @@ module _ (m : Mode) (bit : ℕ) (e e′ : TpsEncoder) (d d′ : TpsDecoder) (y :
 -- ---- the first symbol, and a later one
 
 module _ (m : Mode) where
-  first-signs : (e : TpsEncoder) (bit : ℕ) → e .started ≡ false → signsOf m e bit ≡ startSigns m
+  first-signs : (e : TpsEncoder) (bit : ℕ) → e .started ≡ 0 → signsOf m e bit ≡ startSigns m
   first-signs e bit h = rw h refl
 
-  later-signs : (e : TpsEncoder) (bit : ℕ) → e .started ≡ true → signsOf m e bit ≡ turnedRow (e .signs) bit
+  later-signs : (e : TpsEncoder) (bit : ℕ) → e .started ≡ 1 → signsOf m e bit ≡ turnedRow (e .signs) bit
   later-signs e bit h = rw h refl
 
   first-bit : (n : ℕ) (c p : List Cell) → n ≡ 0 → bitOf m n c p ≡ 0

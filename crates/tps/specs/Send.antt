@@ -1,6 +1,6 @@
 -- Document 01, 'TPS', sending; EN 300 744, 4.6.3: the cells of the TPS carriers in rising active order, imaginary +0.0,
 -- at symbol 0 the sign of w, bit ignored if 0 or 1; later a 1 flips all signs.
-use mathlib.Core.Bool.{true, false, cond}
+use mathlib.Core.Bool.{cond}
 use mathlib.Core.List.{List, [], _∷_, map}
 use Prim.Native.Nat.{ℕ, zero, suc}
 use lib.Dec.{eqb, ltb}
@@ -27,12 +27,13 @@ module _ (m : Mode) where
   unfoldable pub startSigns : List Float
   startSigns = map (λ a. signOf (wk a)) (m .tps)
 
+  -- a sender has started where `started` is anything but 0
   abbrev pub freshEncoder : TpsEncoder
-  freshEncoder = record { signs = startSigns; started = false }
+  freshEncoder = record { signs = startSigns; started = 0 }
 
   -- the signs with which a bit is sent: at symbol 0 those of w, later those of the symbol before, all flipped by a 1
   abbrev pub signsOf : TpsEncoder → ℕ → List Float
-  signsOf e bit = cond (e .started) (cond (eqb bit 1) (map neg (e .signs)) (e .signs)) startSigns
+  signsOf e bit = cond (eqb (e .started) 0) startSigns (cond (eqb bit 1) (map neg (e .signs)) (e .signs))
 
   abbrev pub sendNo : ℕ → List Float → ℕ
   sendNo bit out = firstOf (ltb 1 bit gives NOT-A-BIT ∷ short (tpsSize m) out gives OUTPUT-SHORT ∷ [])
@@ -42,7 +43,7 @@ module _ (m : Mode) where
   sendAnswer e bit out =
       record {
         answer = counted (sendNo bit out) (m .tpsCount);
-        encoder = kept (sendNo bit out) (record { signs = signsOf e bit; started = true }) e;
+        encoder = kept (sendNo bit out) (record { signs = signsOf e bit; started = 1 }) e;
       }
 
   -- and what it leaves in the lent output

@@ -11,11 +11,11 @@ ghost use Rattle.tps.specs.Send.{signCell, startSigns, freshEncoder, sig
 use ground::Cell;
 use ground::Counted;
 
-// The sender: each carrier's sign, and whether the frame's first symbol is sent.
+// The sender: each carrier's sign, and whether the frame's first symbol is sent, which any number but 0 says.
 #[repr(C)]
 pub struct TpsEncoder {
     pub signs: [f32; carriers::TPS_CARRIER_COUNT],
-    pub started: bool,
+    pub started: u8,
 }
 
 // How many cells were written, or the refusal, and the sender after the call.
@@ -81,10 +81,7 @@ impl TpsEncoder {
         ensures { λ r. ⌜ r ≡ freshEncoder mode2k ⌝ }
     {
         let signs = tps_reference_signs();
-        Self {
-            signs,
-            started: false,
-        }
+        Self { signs, started: 0 }
     }
 
     // The sender at the start of a frame again.
@@ -99,7 +96,7 @@ impl TpsEncoder {
         ensures { λ r. ⌜ r ≡ signsOf mode2k self bit ⌝ }
     {
         let signs = self.signs;
-        if !self.started {
+        if self.started == 0 {
             return tps_reference_signs();
         }
         if bit == 1 {
@@ -129,10 +126,7 @@ impl TpsEncoder {
         put_signs(signs, out);
         Sent {
             answer: Counted::Count(carriers::TPS_CARRIER_COUNT),
-            encoder: TpsEncoder {
-                signs,
-                started: true,
-            },
+            encoder: TpsEncoder { signs, started: 1 },
         }
     }
 }
