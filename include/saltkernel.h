@@ -437,10 +437,10 @@ SaltUnpacked salt_tps_word_unpack(const uint8_t *bits, size_t bits_length);
 
 /* ---- The TPS frame, sent and received (4.6.3) */
 
-/* The sender: each carrier's sign, and whether the frame's first symbol is sent. */
+/* The sender: each carrier's sign, and whether the frame's first symbol is sent, which any number but 0 says. */
 typedef struct SaltTpsEncoder {
     float signs[17];
-    bool started;
+    uint8_t started;
 } SaltTpsEncoder;
 
 /* The count or the refusal, and the sender behind the symbol or, refused, as it went in. */
@@ -657,9 +657,9 @@ SaltCounted salt_reader_close(SaltReader reader, uint8_t *out, size_t out_length
  */
 
 /* The number of the layout. */
-uint32_t salt_layout_0d3eb915(void);
+uint32_t salt_layout_d8a5efea(void);
 
-#define SALT_LAYOUT salt_layout_0d3eb915
+#define SALT_LAYOUT salt_layout_d8a5efea
 
 #ifdef __cplusplus
 }

@@ -61,14 +61,14 @@ impl Step {
     fn theirs(self, sender: &mut Theirs, answer: Answer, place: usize) -> Answer {
         let Step::Next(bit, room) = self else {
             sender.encoder.reset();
-            (sender.signs, sender.started) = (first_signs(), false);
+            (sender.signs, sender.started) = (first_signs(), 0);
             return holding(answer, &sender.signs, sender.started);
         };
         let (number, mut out) = (self.number(), no_values(room.size(CELLS)));
         if number == 0 {
             let cells = sender.encoder.next_symbol(bit);
             out.chunks_exact_mut(2).zip(&cells).for_each(|(floats, cell)| floats.copy_from_slice(&[cell.re, cell.im]));
-            (sender.signs, sender.started) = (cells.map(|cell| cell.re), true);
+            (sender.signs, sender.started) = (cells.map(|cell| cell.re), 1);
         }
         let count = if number == 0 { CARRIERS } else { 0 };
         holding(answered(answer, place, number, count, &out, true).surroundings(UNTOUCHED), &sender.signs, sender.started)
@@ -90,11 +90,11 @@ impl Step {
     }
 }
 
-/// orion-sdr's sender, the signs of the cells that it sent last, or sends at symbol 0, and whether it sent any.
+/// orion-sdr's sender, the signs of the cells that it sent last, or sends at symbol 0, and 1 where it sent any.
 struct Theirs {
     encoder: TpsEncoder,
     signs: [f32; CARRIERS],
-    started: bool,
+    started: u8,
 }
 
 /// The signs of the cells at symbol 0.
@@ -103,7 +103,7 @@ fn first_signs() -> [f32; CARRIERS] {
 }
 
 /// An answer with what a sender holds.
-fn holding(answer: Answer, signs: &[f32], started: bool) -> Answer {
+fn holding(answer: Answer, signs: &[f32], started: u8) -> Answer {
     answer.exact_floats("signs held", signs).number("started", u64::from(started))
 }
 
@@ -141,7 +141,7 @@ impl Subject for Sender {
     }
 
     fn expected(&self, case: &Vec<Step>) -> Expected {
-        let mut sender = Theirs { encoder: TpsEncoder::new(), signs: first_signs(), started: false };
+        let mut sender = Theirs { encoder: TpsEncoder::new(), signs: first_signs(), started: 0 };
         let start = holding(Answer::default(), &sender.signs, sender.started);
         let answer = case.iter().chain(&PROBE).enumerate().fold(start, |answer, (place, step)| step.theirs(&mut sender, answer, place));
         if case.iter().any(|step| step.number() != 0) { Expected::document(answer) } else { Expected::orion(answer) }

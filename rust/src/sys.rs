@@ -277,7 +277,7 @@ extern "C" {
 #[derive(Clone, Copy, Debug, PartialEq)]
 pub struct SaltTpsEncoder {
     pub signs: [f32; 17],
-    pub started: bool,
+    pub started: u8,
 }
 
 #[repr(C)]
@@ -395,11 +395,11 @@ extern "C" {
 // ---- The layout
 
 extern "C" {
-    pub fn salt_layout_0d3eb915() -> u32;
+    pub fn salt_layout_d8a5efea() -> u32;
 }
 
 /// Refers to the layout, so that nothing links with an archive of another one; it is called as a program starts, since
 /// a linker drops nothing of what is.
 #[used]
 #[link_section = ".init_array"]
-static LAYOUT: unsafe extern "C" fn() -> u32 = salt_layout_0d3eb915;
+static LAYOUT: unsafe extern "C" fn() -> u32 = salt_layout_d8a5efea;

@@ -6,8 +6,8 @@ ghost use mathlib.Core.Path.{_≡_};
 
 // The number of the layout.
 #[no_mangle]
-pub extern "C" fn salt_layout_0d3eb915() -> u32
-    ensures { λ r. ⌜ r ≡ 222214421 ⌝ }
+pub extern "C" fn salt_layout_d8a5efea() -> u32
+    ensures { λ r. ⌜ r ≡ 3634753514 ⌝ }
 {
-    222214421
+    3634753514
 }
