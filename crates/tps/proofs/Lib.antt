@@ -10,6 +10,8 @@ pub mod Sending
 pub mod FirstCells
 pub mod StandingBits
 pub mod Receiving
+pub mod Refusals
+pub mod WordRefusals
 pub mod FrameState
 pub mod Symbols
 pub mod Frame
