@@ -5,7 +5,7 @@ use mathlib.Core.Bool.{Bool, true, false, cond}
 use mathlib.Core.List.{List}
 use Prim.Native.Nat.{ℕ, _+_, _<_, _≤_, min}
 use lib.Dec.{eqb}
-use lib.Ieee.{Float, lt}
+use lib.Ieee.{Float, nan, lt}
 use lib.ListN.{length, set}
 use borrow.Author.Tests.{lt-ltb, le-ltb, le-leb, lt-leb}
 use Rattle.ground.specs.Refusal.{ACCEPTED, LENGTH, FULL}
@@ -33,6 +33,15 @@ pub bit-held : (m : Mode) (n : ℕ) (c p : List Cell) → min 1 (bitOf m n c p) 
 unfolding bitOf
 bit-held m n c p = held-cond (eqb n 0) (lt (correlation (m .tpsCount) c p) plusZero)
 
+either-same : (b : Bool) (n : ℕ) → cond b n n ≡ n
+either-same true n = refl
+either-same false n = refl
+
+-- a NaN sum gives 0
+pub nan-sum-zero : (m : Mode) (n : ℕ) (c p : List Cell) → correlation (m .tpsCount) c p ≡ nan → bitOf m n c p ≡ 0
+unfolding bitOf lt
+nan-sum-zero m n c p e = ap (λ (x : Float). cond (eqb n 0) 0 (cond (lt x plusZero) 1 0)) e ∙ either-same (eqb n 0) 0
+
 module _ (m : Mode) (d : TpsDecoder) (s : List Float) where
   pub feed-length : length s < tpsSize m → record { answer = Refused LENGTH; decoder = d } ≡ feedAnswer m d s
   feed-length h = simp (lt-ltb (length s) (tpsSize m) h) refl
@@ -48,6 +57,9 @@ module _ (m : Mode) (d : TpsDecoder) (s : List Float) where
         → bit ≡ bitOf m (d .count) cells (d .prev) → held ≡ heldBits (d .count) (d .bits)
         → record { answer = Bit bit; decoder = record { prev = cells; bits = set held (d .count) bit; count = d .count + 1 } } ≡ feedAnswer m d s
     feed-bit l cells bit held ec eb eh = simp (eb, ec, eh, le-ltb (length s) (tpsSize m) h, lt-leb SYMBOLS (d .count) l) refl
+
+    pub nan-fed-zero : d .count < SYMBOLS → correlation (m .tpsCount) (firstCells (m .tpsCount) s) (d .prev) ≡ nan → feedAnswer m d s .answer ≡ Bit 0
+    nan-fed-zero l e = rw (feed-accepted l) (ap Bit (nan-sum-zero m (d .count) (firstCells (m .tpsCount) s) (d .prev) e))
 
     -- what stands after an accepted feed is held as it stands: 0 or 1 each, and 0 behind them
     pub fed-bits-held : d .count < SYMBOLS → length (d .bits) ≡ SYMBOLS
