@@ -26,7 +26,7 @@ use Rattle.tps.specs.Packing.{numberOf}
 
 -- ---- the constellation
 
-constellation-known : (c : ConstellationOrder) → constellationOf (constellationCode c) ≡ constellation.Known c
+pub constellation-known : (c : ConstellationOrder) → constellationOf (constellationCode c) ≡ constellation.Known c
 constellation-known Qpsk = refl
 constellation-known Qam16 = refl
 constellation-known Qam64 = refl
@@ -50,7 +50,7 @@ constellation-reserved (suc (suc (suc n))) h = refl
 
 -- ---- the rate
 
-rate-known : (r : PunctureRate) → rateOf (rateCode r) ≡ rate.Known r
+pub rate-known : (r : PunctureRate) → rateOf (rateCode r) ≡ rate.Known r
 rate-known «R1_2» = refl
 rate-known «R2_3» = refl
 rate-known «R3_4» = refl
@@ -82,7 +82,7 @@ rate-reserved (suc (suc (suc (suc (suc n))))) h = refl
 
 -- ---- the guard interval
 
-guard-known : (g : GuardInterval) → guardOf (guardCode g) ≡ guard.Known g
+pub guard-known : (g : GuardInterval) → guardOf (guardCode g) ≡ guard.Known g
 guard-known «G1_32» = refl
 guard-known «G1_16» = refl
 guard-known «G1_8» = refl

@@ -1,4 +1,5 @@
 pub mod Codes
+pub mod Faithful
 pub mod Fields
 pub mod Packing
 pub mod Unpacking

@@ -32,10 +32,13 @@ packLeaves w out = fillLeaves SYMBOLS (wordBits w) out
 
 -- ---- unpacking
 
--- document 01's number for each case of an answer
+-- document 01's number and the word, for each case of an answer: no two answers say the same
+abbrev pub unpackedSays : Unpacked → ℕ × List TpsWord
+unpackedSays (Word w) = (ACCEPTED, w ∷ [])
+unpackedSays (Refused k) = (k, [])
+
 abbrev pub numberOf : Unpacked → ℕ
-numberOf (Word w) = ACCEPTED
-numberOf (Refused k) = k
+numberOf a = unpackedSays a .0
 
 -- the number of a call by its length and its items, s0 among them
 abbrev pub unpackNo : List ℕ → ℕ

@@ -42,14 +42,17 @@ correlation zero cells prev = plusZero
 correlation (suc k) cells prev =
     add binary32 (correlation k cells prev) (product (getD cells k noCell) (getD prev k noCell))
 
--- document 01's number and the bit, for each case of an answer
+-- document 01's number and the bit, for each case of an answer: no two answers say the same
+abbrev pub bitSays : TpsBit → ℕ × List ℕ
+bitSays (Bit b) = (ACCEPTED, b ∷ [])
+bitSays (Refused k) = (k, [])
+
+-- the number, and the bit, 0 where there is none
 abbrev pub bitNumber : TpsBit → ℕ
-bitNumber (Bit b) = ACCEPTED
-bitNumber (Refused k) = k
+bitNumber a = bitSays a .0
 
 abbrev pub bitIn : TpsBit → ℕ
-bitIn (Bit b) = b
-bitIn (Refused k) = 0
+bitIn a = getD (bitSays a .1) 0 0
 
 -- the answer of a call whose number is no: the bit where it is 0, else the refusal
 abbrev pub bitAnswer : ℕ → ℕ → TpsBit
