@@ -62,7 +62,7 @@ lacks n ((test gives k) ∷ tests) = not (eqb n k) && lacks n tests
 apart : (n k : ℕ) → T (not (eqb n k)) → k ≡ n → ⊥
 apart n k t e = subst (λ (b : Bool). T (not b)) (eq-eqb n k (sym e)) t
 
-lacks-number : (n : ℕ) (tests : List Test) → T (lacks n tests) → firstOf tests ≡ n → ⊥
+pub lacks-number : (n : ℕ) (tests : List Test) → T (lacks n tests) → firstOf tests ≡ n → ⊥
 lacks-number n [] l e = apart n ACCEPTED l e
 lacks-number n ((true gives k) ∷ tests) l e = apart n k (and-l (not (eqb n k)) (lacks n tests) l) e
 lacks-number n ((false gives k) ∷ tests) l e = lacks-number n tests (and-r (not (eqb n k)) (lacks n tests) l) e

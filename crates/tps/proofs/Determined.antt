@@ -1,5 +1,5 @@
--- Two results of a call that meet its promise are equal, for each public call but the receiver lent in parts (Receiving);
--- and unpacking and a call for the word have an answer, as a function. Assumes nothing.
+-- Two results of a call that meet its promise are equal, for each public call but that of a receiver lent in parts
+-- (Receiving); and unpacking and a call for the word have an answer, as a function. Assumes nothing.
 use mathlib.Core.Path.{_≡_, refl, sym, ap, _∙_}
 use mathlib.Core.Logic.{inl, inr}
 use mathlib.Core.Bool.{Bool, true, false, not, cond}
@@ -11,8 +11,8 @@ use lib.ListN.{length, take, drop}
 use borrow.Author.Tests.{eqb-true}
 use Rattle.ground.specs.Refusal.{ACCEPTED, LENGTH, NOT-A-BIT, INCOMPLETE}
 use Rattle.ground.specs.Answer.{kept}
-use Rattle.ground.specs.declared.Counted.{Counted}
 use Rattle.ground.specs.Bits.{areBits}
+use Rattle.ground.proofs.Answers.{OneAnswer, one-answer, OneResult, one-result}
 use Rattle.carriers.specs.Mode.{Mode}
 use Rattle.bch.specs.NearCodeword.{Near, found, none, nearOf}
 use Rattle.bch.proofs.Distance.{unique}
@@ -21,9 +21,7 @@ use Rattle.tps.specs.declared.word.TpsWord.{TpsWord}
 use Rattle.tps.specs.declared.word.Unpacked.{Unpacked}
 use Rattle.tps.specs.declared.word.Unpacked.the-variants.{Refused}
 use Rattle.tps.specs.declared.sender.TpsEncoder.{TpsEncoder}
-use Rattle.tps.specs.declared.sender.Sent.{Sent}
 use Rattle.tps.specs.declared.receiver.TpsDecoder.{TpsDecoder}
-use Rattle.tps.specs.declared.receiver.Fed.{Fed}
 use Rattle.tps.specs.Codes.{wordOf}
 use Rattle.tps.specs.Word.{SYMBOLS, codesIn}
 use Rattle.tps.specs.Packing.{packAnswer, packLeaves, numberOf, UnpacksBy, Unpacks, nearAnswer, unpackAnswer}
@@ -105,37 +103,26 @@ module _ (d : TpsDecoder) where
 
 -- ---- the calls whose promise is an equation
 
--- two results that equal one answer are equal, as those of the functions of inner do
-pub one-result : {A : Type 0} {a : A} (r q : A) → r ≡ a → q ≡ a → r ≡ q
-one-result r q e f = e ∙ sym f
-
--- and so is what they leave
-pub one-call : {A B : Type 0} {a : A} {b : B} (r q : A) (x y : B) → (r ≡ a) × (x ≡ b) → (q ≡ a) × (y ≡ b) → (r ≡ q) × (x ≡ y)
-one-call r q x y h k = (one-result r q (h .0) (k .0), one-result x y (h .1) (k .1))
-
-pub pack-determined : (w : TpsWord) (o : List ℕ) (r q : Counted) (x y : List ℕ) → (r ≡ packAnswer o) × (x ≡ packLeaves w o)
-    → (q ≡ packAnswer o) × (y ≡ packLeaves w o) → (r ≡ q) × (x ≡ y)
-pack-determined w o = one-call
+pub pack-determined : (w : TpsWord) (o : List ℕ) → OneResult (packAnswer o) (packLeaves w o)
+pack-determined w o = one-result (packAnswer o) (packLeaves w o)
 
 module _ (m : Mode) where
   -- of a new sender, and of one that was reset
-  pub encoder-determined : (r q : TpsEncoder) → r ≡ freshEncoder m → q ≡ freshEncoder m → r ≡ q
-  encoder-determined = one-result
+  pub encoder-determined : OneAnswer (freshEncoder m)
+  encoder-determined = one-answer (freshEncoder m)
 
-  pub send-determined : (e : TpsEncoder) (bit : ℕ) (o : List Float) (r q : Sent) (x y : List Float)
-      → (r ≡ sendAnswer m e bit o) × (x ≡ sendLeaves m e bit o) → (q ≡ sendAnswer m e bit o) × (y ≡ sendLeaves m e bit o) → (r ≡ q) × (x ≡ y)
-  send-determined e bit o = one-call
+  pub send-determined : (e : TpsEncoder) (bit : ℕ) (o : List Float) → OneResult (sendAnswer m e bit o) (sendLeaves m e bit o)
+  send-determined e bit o = one-result (sendAnswer m e bit o) (sendLeaves m e bit o)
 
   -- of a new receiver, and of one that was reset
-  pub decoder-determined : (r q : TpsDecoder) → r ≡ freshDecoder m → q ≡ freshDecoder m → r ≡ q
-  decoder-determined = one-result
+  pub decoder-determined : OneAnswer (freshDecoder m)
+  decoder-determined = one-answer (freshDecoder m)
 
-  pub feed-determined : (d : TpsDecoder) (s : List Float) (r q : Fed) → r ≡ feedAnswer m d s → q ≡ feedAnswer m d s → r ≡ q
-  feed-determined d s = one-result
+  pub feed-determined : (d : TpsDecoder) (s : List Float) → OneAnswer (feedAnswer m d s)
+  feed-determined d s = one-answer (feedAnswer m d s)
 
-pub complete-determined : (d : TpsDecoder) (r q : Bool) → r ≡ leb SYMBOLS (d .count) → q ≡ leb SYMBOLS (d .count) → r ≡ q
-complete-determined d = one-result
+pub complete-determined : (d : TpsDecoder) → OneAnswer (leb SYMBOLS (d .count))
+complete-determined d = one-answer (leb SYMBOLS (d .count))
 
-pub bits-determined : (d : TpsDecoder) (o : List ℕ) (r q : Counted) (x y : List ℕ) → (r ≡ bitsAnswer d o) × (x ≡ bitsLeaves d o)
-    → (q ≡ bitsAnswer d o) × (y ≡ bitsLeaves d o) → (r ≡ q) × (x ≡ y)
-bits-determined d o = one-call
+pub bits-determined : (d : TpsDecoder) (o : List ℕ) → OneResult (bitsAnswer d o) (bitsLeaves d o)
+bits-determined d o = one-result (bitsAnswer d o) (bitsLeaves d o)

@@ -10,7 +10,7 @@ use lib.ListN.{length}
 use Rattle.ground.specs.Refusal.{LENGTH, NOT-A-BIT, OUTPUT-SHORT, FULL, Test, _gives_}
 use Rattle.ground.specs.Answer.{numberOf, short}
 use Rattle.ground.proofs.Answers.{counted-says-number}
-use Rattle.ground.proofs.FirstTest.{reads-less, reads-most, first-gives, later-gives, says-when}
+use Rattle.ground.proofs.Exactly.{less-decides, at-most-decides, given-here, given-behind, said-exactly, fill-short-exactly}
 use Rattle.carriers.specs.Mode.{Mode, tpsSize}
 use Rattle.tps.specs.declared.sender.TpsEncoder.{TpsEncoder}
 use Rattle.tps.specs.declared.receiver.TpsDecoder.{TpsDecoder}
@@ -26,12 +26,12 @@ module _ (m : Mode) (e : TpsEncoder) (bit : ℕ) (o : List Float) where
   room = short (tpsSize m) o gives OUTPUT-SHORT ∷ []
 
   pub sending-not-a-bit : (numberOf (sendAnswer m e bit o .answer) ≡ NOT-A-BIT) ↔ (1 < bit)
-  sending-not-a-bit = says-when (counted-says-number (sendNo m bit o) (m .tpsCount)) (first-gives (reads-less 1 bit) _ _ room refl refl)
+  sending-not-a-bit = said-exactly (counted-says-number (sendNo m bit o) (m .tpsCount)) (given-here NOT-A-BIT room (less-decides 1 bit) tt)
 
   pub sending-output-short : (numberOf (sendAnswer m e bit o .answer) ≡ OUTPUT-SHORT) ↔ ((bit ≤ 1) × (length o < tpsSize m))
   sending-output-short =
-      says-when (counted-says-number (sendNo m bit o) (m .tpsCount))
-      (later-gives (reads-less 1 bit) _ _ room refl (first-gives (reads-less (length o) (tpsSize m)) _ _ [] refl refl))
+      said-exactly (counted-says-number (sendNo m bit o) (m .tpsCount))
+      (given-behind NOT-A-BIT OUTPUT-SHORT room (less-decides 1 bit) tt (λ b. fill-short-exactly (tpsSize m) o))
 
 -- ---- receiving
 
@@ -45,17 +45,17 @@ module _ (m : Mode) (d : TpsDecoder) (s : List Float) where
 
   pub feeding-length : (bitNumber (feedAnswer m d s .answer) ≡ LENGTH) ↔ (length s < tpsSize m)
   feeding-length =
-      says-when (bit-says-number (feedNo m d s) (fedBit m d s)) (first-gives (reads-less (length s) (tpsSize m)) _ _ full refl refl)
+      said-exactly (bit-says-number (feedNo m d s) (fedBit m d s)) (given-here LENGTH full (less-decides (length s) (tpsSize m)) tt)
 
   pub feeding-full : (bitNumber (feedAnswer m d s .answer) ≡ FULL) ↔ ((tpsSize m ≤ length s) × (SYMBOLS ≤ d .count))
   feeding-full =
-      says-when (bit-says-number (feedNo m d s) (fedBit m d s))
-      (later-gives (reads-less (length s) (tpsSize m)) _ _ full refl (first-gives (reads-most SYMBOLS (d .count)) _ _ [] refl refl))
+      said-exactly (bit-says-number (feedNo m d s) (fedBit m d s))
+      (given-behind LENGTH FULL full (less-decides (length s) (tpsSize m)) tt (λ l. given-here FULL [] (at-most-decides SYMBOLS (d .count)) tt))
 
 pub bits-output-short : (d : TpsDecoder) (o : List ℕ) → (numberOf (bitsAnswer d o) ≡ OUTPUT-SHORT) ↔ (length o < standing d)
-bits-output-short d o = says-when (counted-says-number (bitsNo d o) (standing d)) (first-gives (reads-less (length o) (standing d)) _ _ [] refl refl)
+bits-output-short d o = said-exactly (counted-says-number (bitsNo d o) (standing d)) (fill-short-exactly (standing d) o)
 
 -- ---- packing
 
 pub packing-output-short : (o : List ℕ) → (numberOf (packAnswer o) ≡ OUTPUT-SHORT) ↔ (length o < SYMBOLS)
-packing-output-short o = says-when (counted-says-number (packNo o) SYMBOLS) (first-gives (reads-less (length o) SYMBOLS) _ _ [] refl refl)
+packing-output-short o = said-exactly (counted-says-number (packNo o) SYMBOLS) (fill-short-exactly SYMBOLS o)

@@ -1,5 +1,5 @@
--- A sum of n ones, or of n minus ones, in order from +0.0 in f32: exact up to 2^24, and so below zero exactly where they
--- are minus ones. Assumes nothing.
+-- A sum of n ones, or of n minus ones, in order from +0.0 in f32: exact up to 2^24, and so below zero exactly where
+-- they are minus ones. Assumes nothing.
 use mathlib.Core.Path.{_≡_, refl, sym, ap, _∙_, subst}
 use mathlib.Core.Bool.{Bool, true, false}
 use Prim.Native.Nat.{ℕ, zero, suc, _+_, _*_, _^_, _<_, _≤_}

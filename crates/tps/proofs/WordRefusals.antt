@@ -11,7 +11,7 @@ use lib.ListN.{length, take, drop, length-map}
 use Rattle.ground.specs.Refusal.{ACCEPTED, LENGTH, NOT-A-BIT, NO-WORD, RESERVED, INCOMPLETE, Test, _gives_}
 use Rattle.ground.specs.Bits.{Bits, areBits}
 use Rattle.ground.proofs.Bits.{are-bits}
-use Rattle.ground.proofs.FirstTest.{reads-less, reads-equal, reads-bits, reads-not, lacked, first-gives, later-gives, passes}
+use Rattle.ground.proofs.Exactly.{Decides, less-decides, equal-decides, bits-decide, not-decides, lacks-number, given-here, given-behind, accepted-last}
 use Rattle.bch.specs.Code.{Codeword, distance, Lone}
 use Rattle.bch.proofs.Distance.{unique}
 use Rattle.tps.specs.declared.receiver.TpsDecoder.{TpsDecoder}
@@ -89,24 +89,27 @@ module _ (b : List ℕ) (r : Unpacked) (u : Unpacks b r) where
   tested : (k : ℕ) → 0 < k → k < 4 → (numberOf r ≡ k) ↔ (unpackNo b ≡ k)
   tested k p l = by-tests (λ no. UnpacksBy no b r) (λ k h. h) (unpackNo b) k u p (λ h. not-by b r h k p (inl l))
 
+  other-length : Decides (not (eqb (length b) SYMBOLS)) (length b ≡ SYMBOLS → ⊥) (length b ≡ SYMBOLS)
+  other-length = not-decides (equal-decides (length b) SYMBOLS)
+
   sized : (unpackNo b ≡ ACCEPTED) ↔ Sized b
-  sized = later-gives (reads-not (reads-equal (length b) SYMBOLS)) _ _ items refl (passes (reads-not (reads-bits b)) _ refl)
+  sized = given-behind LENGTH ACCEPTED items other-length tt (λ l. accepted-last NOT-A-BIT (not-decides (bits-decide b)) tt)
 
   pub unpacking-length : (numberOf r ≡ LENGTH) ↔ (length b ≡ SYMBOLS → ⊥)
-  unpacking-length = Iff·trans (tested LENGTH (omega arith) (omega arith)) (first-gives (reads-not (reads-equal (length b) SYMBOLS)) _ _ items refl refl)
+  unpacking-length = Iff·trans (tested LENGTH (omega arith) (omega arith)) (given-here LENGTH items other-length tt)
 
   pub unpacking-not-a-bit : (numberOf r ≡ NOT-A-BIT) ↔ ((length b ≡ SYMBOLS) × (Bits b → ⊥))
   unpacking-not-a-bit =
       Iff·trans (tested NOT-A-BIT (omega arith) (omega arith))
-      (later-gives (reads-not (reads-equal (length b) SYMBOLS)) _ _ items refl (first-gives (reads-not (reads-bits b)) _ _ [] refl refl))
+      (given-behind LENGTH NOT-A-BIT items other-length tt (λ l. given-here NOT-A-BIT [] (not-decides (bits-decide b)) tt))
 
   pub unpacking-no-word : (numberOf r ≡ NO-WORD) ↔ (Sized b × Lone (drop 1 b))
   unpacking-no-word =
-      past-tests (λ no. UnpacksBy no b r) (λ k h. h) (unpackNo b) NO-WORD u sized (lacked NO-WORD tests refl) (λ s. by-none b r)
+      past-tests (λ no. UnpacksBy no b r) (λ k h. h) (unpackNo b) NO-WORD u sized (lacks-number NO-WORD tests tt) (λ s. by-none b r)
 
   pub unpacking-reserved : (numberOf r ≡ RESERVED) ↔ (Sized b × Reserves (drop 1 b))
   unpacking-reserved =
-      past-tests (λ no. UnpacksBy no b r) (λ k h. h) (unpackNo b) RESERVED u sized (lacked RESERVED tests refl) (by-reserved b r)
+      past-tests (λ no. UnpacksBy no b r) (λ k h. h) (unpackNo b) RESERVED u sized (lacks-number RESERVED tests tt) (by-reserved b r)
 
 -- ---- a call for the word
 
@@ -122,18 +125,18 @@ module _ (d : TpsDecoder) (z : length (d .bits) ≡ SYMBOLS) (r : Unpacked) (w :
   near u = subst (λ (k : ℕ). UnpacksBy k held r) (unpack-accepted held (held-sized .0) (are-bits held (held-sized .1))) u
 
   complete : (wordNo d ≡ ACCEPTED) ↔ (SYMBOLS ≤ d .count)
-  complete = passes (reads-less (d .count) SYMBOLS) _ refl
+  complete = accepted-last INCOMPLETE (less-decides (d .count) SYMBOLS) tt
 
   pub asking-incomplete : (numberOf r ≡ INCOMPLETE) ↔ (d .count < SYMBOLS)
   asking-incomplete =
       Iff·trans (by-tests (λ no. WordsBy no d r) (λ k h. h) (wordNo d) INCOMPLETE w (omega arith) (λ u. not-by held r (near u) INCOMPLETE (omega arith) (inr (omega arith))))
-      (first-gives (reads-less (d .count) SYMBOLS) _ _ [] refl refl)
+      (given-here INCOMPLETE [] (less-decides (d .count) SYMBOLS) tt)
 
   asked : {P : Type 0} (k : ℕ) → (wordNo d ≡ k → ⊥) → (UnpacksBy zero held r → (numberOf r ≡ k) ↔ P) → (numberOf r ≡ k) ↔ ((SYMBOLS ≤ d .count) × P)
   asked k other f = past-tests (λ no. WordsBy no d r) (λ k h. h) (wordNo d) k w complete other (λ c u. f (near u))
 
   pub asking-no-word : (numberOf r ≡ NO-WORD) ↔ ((SYMBOLS ≤ d .count) × Lone (drop 1 held))
-  asking-no-word = asked NO-WORD (lacked NO-WORD (ltb (d .count) SYMBOLS gives INCOMPLETE ∷ []) refl) (by-none held r)
+  asking-no-word = asked NO-WORD (lacks-number NO-WORD (ltb (d .count) SYMBOLS gives INCOMPLETE ∷ []) tt) (by-none held r)
 
   pub asking-reserved : (numberOf r ≡ RESERVED) ↔ ((SYMBOLS ≤ d .count) × Reserves (drop 1 held))
-  asking-reserved = asked RESERVED (lacked RESERVED (ltb (d .count) SYMBOLS gives INCOMPLETE ∷ []) refl) (by-reserved held r held-sized)
+  asking-reserved = asked RESERVED (lacks-number RESERVED (ltb (d .count) SYMBOLS gives INCOMPLETE ∷ []) tt) (by-reserved held r held-sized)
