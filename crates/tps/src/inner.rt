@@ -12,6 +12,7 @@ use super::word::GuardInterval;
 use super::word::PunctureRate;
 use super::word::TpsWord;
 use super::word::Unpacked;
+use carriers::TPS_CARRIER_COUNT;
 use ground::Cell;
 use ground::ConstellationOrder;
 
@@ -172,13 +173,13 @@ pub fn standing_count(count: usize) -> usize
 }
 
 // The first cells of a slice, one for each TPS carrier.
-pub fn first_cells(cells: &[f32]) -> [Cell; carriers::TPS_CARRIER_COUNT]
+pub fn first_cells(cells: &[f32]) -> [Cell; TPS_CARRIER_COUNT]
     requires { ⌜ tpsSize mode2k ≤ length (now cells) ⌝ }
     ensures { λ r. ⌜ r ≡ firstCells (mode2k .tpsCount) (now (cells .entry)) ⌝ }
 {
-    let mut first = [Cell { re: 0.0, im: 0.0 }; carriers::TPS_CARRIER_COUNT];
+    let mut first = [Cell { re: 0.0, im: 0.0 }; TPS_CARRIER_COUNT];
     let mut k: usize = 0;
-    while k < carriers::TPS_CARRIER_COUNT {
+    while k < TPS_CARRIER_COUNT {
         first[k] = ground::inner::cell_at(cells, k);
         k += 1;
     }

@@ -10,6 +10,8 @@ ghost use Rattle.tps.specs.Lent.{lentDecoder, lentFed};
 use super::TPS_SYMBOLS_PER_FRAME;
 use super::inner;
 use super::receiver::TpsBit;
+use carriers::TPS_CARRIER_COUNT;
+use carriers::TPS_FLOATS;
 
 // The sum of the carriers' products with the previous symbol's, in order from +0.0, each operation rounded once.
 fn correlate(cells: &[f32], prev: &[f32]) -> f32
@@ -19,7 +21,7 @@ fn correlate(cells: &[f32], prev: &[f32]) -> f32
 {
     let mut sum = 0.0f32;
     let mut k: usize = 0;
-    while k < carriers::TPS_CARRIER_COUNT {
+    while k < TPS_CARRIER_COUNT {
         let a = ground::inner::cell_at(cells, k);
         let b = ground::inner::cell_at(prev, k);
         sum = sum + (a.re * b.re - a.im * (-b.im));
@@ -50,15 +52,12 @@ fn put_cells(cells: &[f32], prev: &mut [f32])
     ensures { λ _. ⌜ now (prev .exit)
         ≡ written (flat (firstCells (mode2k .tpsCount) (now (cells .entry)))) (now (prev .entry)) ⌝ }
 {
-    ground::inner::copy_cells(
-        &cells[..carriers::TPS_FLOATS],
-        &mut prev[..carriers::TPS_FLOATS],
-    );
+    ground::inner::copy_cells(&cells[..TPS_FLOATS], &mut prev[..TPS_FLOATS]);
 }
 
 // The bit of one symbol's cells, re and im in turn, in rising active order (EN 300 744, 4.6.3).
 pub fn feed_symbol(
-    prev: &mut [f32; carriers::TPS_FLOATS],
+    prev: &mut [f32; TPS_FLOATS],
     bits: &mut [u8; TPS_SYMBOLS_PER_FRAME],
     count: &mut usize,
     cells: &[f32],
@@ -66,7 +65,7 @@ pub fn feed_symbol(
     ensures { λ r. ⌜ lentFed mode2k r (now (prev .exit)) (now (bits .exit)) (now (count .exit)) ≡ feedAnswer mode2k
         (lentDecoder mode2k (now (prev .entry)) (now (bits .entry)) (now (count .entry))) (now (cells .entry)) ⌝ }
 {
-    if cells.len() < carriers::TPS_FLOATS {
+    if cells.len() < TPS_FLOATS {
         return TpsBit::Refused(ground::LENGTH);
     }
     let n = *count;

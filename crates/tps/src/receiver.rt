@@ -8,6 +8,8 @@ use super::TPS_SYMBOLS_PER_FRAME;
 use super::inner;
 use super::word::TpsWord;
 use super::word::Unpacked;
+use carriers::TPS_CARRIER_COUNT;
+use carriers::TPS_FLOATS;
 use ground::Cell;
 use ground::Counted;
 
@@ -15,7 +17,7 @@ use ground::Counted;
 // a held bit above 1 as 1, which a feed makes it; it makes bits that don't stand 0.
 #[repr(C)]
 pub struct TpsDecoder {
-    pub prev: [Cell; carriers::TPS_CARRIER_COUNT],
+    pub prev: [Cell; TPS_CARRIER_COUNT],
     pub bits: [u8; TPS_SYMBOLS_PER_FRAME],
     pub count: usize,
 }
@@ -33,15 +35,12 @@ pub struct Fed {
 }
 
 // The sum of the carriers' products with the previous symbol's, in order from +0.0, each operation rounded once.
-fn correlate(
-    cells: [Cell; carriers::TPS_CARRIER_COUNT],
-    prev: [Cell; carriers::TPS_CARRIER_COUNT],
-) -> f32
+fn correlate(cells: [Cell; TPS_CARRIER_COUNT], prev: [Cell; TPS_CARRIER_COUNT]) -> f32
     ensures { λ r. ⌜ r ≡ correlation (mode2k .tpsCount) cells prev ⌝ }
 {
     let mut sum = 0.0f32;
     let mut k: usize = 0;
-    while k < carriers::TPS_CARRIER_COUNT {
+    while k < TPS_CARRIER_COUNT {
         let a = cells[k];
         let b = prev[k];
         sum = sum + (a.re * b.re - a.im * (-b.im));
@@ -51,11 +50,7 @@ fn correlate(
 }
 
 // The bit of the symbol that is fed when count symbols stand.
-fn tps_bit(
-    count: usize,
-    cells: [Cell; carriers::TPS_CARRIER_COUNT],
-    prev: [Cell; carriers::TPS_CARRIER_COUNT],
-) -> u8
+fn tps_bit(count: usize, cells: [Cell; TPS_CARRIER_COUNT], prev: [Cell; TPS_CARRIER_COUNT]) -> u8
     ensures { λ r. ⌜ r ≡ bitOf mode2k count cells prev ⌝ }
 {
     if count == 0 {
@@ -74,7 +69,7 @@ impl TpsDecoder {
         ensures { λ r. ⌜ r ≡ freshDecoder mode2k ⌝ }
     {
         Self {
-            prev: [Cell { re: 0.0, im: 0.0 }; carriers::TPS_CARRIER_COUNT],
+            prev: [Cell { re: 0.0, im: 0.0 }; TPS_CARRIER_COUNT],
             bits: [0u8; TPS_SYMBOLS_PER_FRAME],
             count: 0,
         }
@@ -91,7 +86,7 @@ impl TpsDecoder {
     pub fn feed_symbol(self, cells: &[f32]) -> Fed
         ensures { λ r. ⌜ r ≡ feedAnswer mode2k self (now (cells .entry)) ⌝ }
     {
-        if cells.len() < carriers::TPS_FLOATS {
+        if cells.len() < TPS_FLOATS {
             return Fed {
                 answer: TpsBit::Refused(ground::LENGTH),
                 decoder: self,

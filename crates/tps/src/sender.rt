@@ -8,13 +8,15 @@ ghost use Rattle.ground.specs.Answer.{written};
 ghost use Rattle.ground.specs.Cells.{flat};
 ghost use Rattle.carriers.specs.Mode.{mode2k, tpsSize};
 ghost use Rattle.tps.specs.Send.{signCell, startSigns, freshEncoder, signsOf, sendAnswer, sendLeaves};
+use carriers::TPS_CARRIER_COUNT;
+use carriers::TPS_FLOATS;
 use ground::Cell;
 use ground::Counted;
 
 // The sender: each carrier's sign, and whether the frame's first symbol is sent, which any number but 0 says.
 #[repr(C)]
 pub struct TpsEncoder {
-    pub signs: [f32; carriers::TPS_CARRIER_COUNT],
+    pub signs: [f32; TPS_CARRIER_COUNT],
     pub started: u8,
 }
 
@@ -25,7 +27,7 @@ pub struct Sent {
 }
 
 // The signs of w at the TPS carriers (EN 300 744, 4.6.3).
-fn tps_reference_signs() -> [f32; carriers::TPS_CARRIER_COUNT]
+fn tps_reference_signs() -> [f32; TPS_CARRIER_COUNT]
     ensures { λ r. ⌜ r ≡ startSigns mode2k ⌝ }
 {
     [
@@ -50,12 +52,12 @@ fn tps_reference_signs() -> [f32; carriers::TPS_CARRIER_COUNT]
 }
 
 // All signs turned.
-fn turned(signs: [f32; carriers::TPS_CARRIER_COUNT]) -> [f32; carriers::TPS_CARRIER_COUNT]
+fn turned(signs: [f32; TPS_CARRIER_COUNT]) -> [f32; TPS_CARRIER_COUNT]
     ensures { λ r. ⌜ r ≡ map neg signs ⌝ }
 {
-    let mut other = [0.0f32; carriers::TPS_CARRIER_COUNT];
+    let mut other = [0.0f32; TPS_CARRIER_COUNT];
     let mut k: usize = 0;
-    while k < carriers::TPS_CARRIER_COUNT {
+    while k < TPS_CARRIER_COUNT {
         other[k] = -signs[k];
         k += 1;
     }
@@ -63,12 +65,12 @@ fn turned(signs: [f32; carriers::TPS_CARRIER_COUNT]) -> [f32; carriers::TPS_CARR
 }
 
 // The cells of the signs, written to the lent output.
-fn put_signs(signs: [f32; carriers::TPS_CARRIER_COUNT], out: &mut [f32])
+fn put_signs(signs: [f32; TPS_CARRIER_COUNT], out: &mut [f32])
     requires { ⌜ tpsSize mode2k ≤ length (now out) ⌝ }
     ensures { λ r. ⌜ now (out .exit) ≡ written (flat (map signCell signs)) (now (out .entry)) ⌝ }
 {
     let mut k: usize = 0;
-    while k < carriers::TPS_CARRIER_COUNT {
+    while k < TPS_CARRIER_COUNT {
         let re = signs[k];
         ground::inner::put_cell(out, k, Cell { re, im: 0.0 });
         k += 1;
@@ -92,7 +94,7 @@ impl TpsEncoder {
     }
 
     // The signs with which the next bit is sent (EN 300 744, 4.6.3).
-    fn next_signs(self, bit: u8) -> [f32; carriers::TPS_CARRIER_COUNT]
+    fn next_signs(self, bit: u8) -> [f32; TPS_CARRIER_COUNT]
         ensures { λ r. ⌜ r ≡ signsOf mode2k self bit ⌝ }
     {
         let signs = self.signs;
@@ -116,7 +118,7 @@ impl TpsEncoder {
                 encoder: self,
             };
         }
-        if out.len() < carriers::TPS_FLOATS {
+        if out.len() < TPS_FLOATS {
             return Sent {
                 answer: Counted::Refused(ground::OUTPUT_SHORT),
                 encoder: self,
@@ -125,7 +127,7 @@ impl TpsEncoder {
         let signs = self.next_signs(bit);
         put_signs(signs, out);
         Sent {
-            answer: Counted::Count(carriers::TPS_CARRIER_COUNT),
+            answer: Counted::Count(TPS_CARRIER_COUNT),
             encoder: TpsEncoder { signs, started: 1 },
         }
     }
