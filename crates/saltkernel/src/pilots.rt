@@ -159,7 +159,7 @@ pub extern "C" fn salt_boosted_pilot_value(wk: u8) -> SaltMapped
 pub extern "C" fn salt_continual_pilot_indices() -> SaltContinual
     ensures { λ r. ⌜ r .carriers ≡ mode2k .continual ⌝ }
 {
-    let table = carriers::continual_pilot_indices();
+    let table = carriers::inner::continual_pilot_indices();
     SaltContinual { carriers: table }
 }
 
@@ -168,7 +168,7 @@ pub extern "C" fn salt_continual_pilot_indices() -> SaltContinual
 pub extern "C" fn salt_continual_pilot_bins() -> SaltContinual
     ensures { λ r. ⌜ r .carriers ≡ continualBins mode2k ⌝ }
 {
-    let table = carriers::continual_pilot_bins();
+    let table = carriers::inner::continual_pilot_bins();
     SaltContinual { carriers: table }
 }
 
@@ -177,7 +177,7 @@ pub extern "C" fn salt_continual_pilot_bins() -> SaltContinual
 pub extern "C" fn salt_tps_carrier_indices() -> SaltTps
     ensures { λ r. ⌜ r .carriers ≡ mode2k .tps ⌝ }
 {
-    let table = carriers::tps_carrier_indices();
+    let table = carriers::inner::tps_carrier_indices();
     SaltTps { carriers: table }
 }
 
@@ -186,7 +186,7 @@ pub extern "C" fn salt_tps_carrier_indices() -> SaltTps
 pub extern "C" fn salt_tps_carrier_bins() -> SaltTps
     ensures { λ r. ⌜ r .carriers ≡ tpsBins mode2k ⌝ }
 {
-    let table = carriers::tps_carrier_bins();
+    let table = carriers::inner::tps_carrier_bins();
     SaltTps { carriers: table }
 }
 

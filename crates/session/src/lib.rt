@@ -44,7 +44,7 @@ fn tps_cells(symbol: &[f32]) -> [f32; 34]
     requires { ⌜ 4096 ≤ length (now symbol) ⌝ }
     ensures { λ r. ⌜ r ≡ tpsCells mode2k (now (symbol .entry)) ⌝ }
 {
-    let bins = carriers::tps_carrier_bins();
+    let bins = carriers::inner::tps_carrier_bins();
     let mut cells = [0.0f32; 34];
     grid::inner::gather(&bins, symbol, &mut cells);
     cells
