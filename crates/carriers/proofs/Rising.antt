@@ -1,13 +1,14 @@
--- Laws of rising lists: a list that rises and has just the members that a test passes is what the test chooses, and the walk along it gives what the
+-- Laws of rising lists: members by their places; a list that rises and has just the members that a test passes is what the test chooses, and the walk along it gives what the
 -- test leaves; and how many there are. Over any list and any test. Assumes nothing.
 use mathlib.Core.Path.{_≡_, refl, sym, ap, ap₂, _∙_}
 use mathlib.Core.Bool.{Bool, true, false, not, _||_}
 use mathlib.Core.List.{List, [], _∷_}
 use Prim.Native.Nat.{ℕ, zero, suc, _+_, _≤_, _<_}
+use native.Mathlib.Nat.{not-suc-le-zero, le-of-suc-le-suc}
 use native.Mathlib.Omega.{arith}
 use lib.Arith.{lt-of-le-ne}
 use lib.Dec.{eqb}
-use lib.ListN.{length}
+use lib.ListN.{length, getD}
 use borrow.Author.Tests.{ne-eqb, eqb-true, eqb-false}
 use Rattle.carriers.specs.Carriers.{among, keep, chosen}
 use Rattle.carriers.specs.Reserved.{Rises, heads, past, gaps}
@@ -19,6 +20,18 @@ rises-room (r ∷ l) a b h = omega (arith, h .0, rises-room l (suc r) b (h .1))
 pub rises-weaken : (l : List ℕ) (a c b : ℕ) → a ≤ c → Rises c b l → Rises a b l
 rises-weaken [] a c b g h = omega arith
 rises-weaken (r ∷ l) a c b g h = (omega (arith, h .0), h .1)
+
+rises-from : (l : List ℕ) (a b i : ℕ) → Rises a b l → i < length l → a ≤ getD l i 0
+rises-from [] a b i h l< = absurd (not-suc-le-zero l<)
+rises-from (r ∷ l) a b zero h l< = h .0
+rises-from (r ∷ l) a b (suc i) h l< = omega (arith, h .0, rises-from l (suc r) b i (h .1) (le-of-suc-le-suc l<))
+
+-- by places: a later member is the greater
+pub rises-apart : (l : List ℕ) (a b j k : ℕ) → Rises a b l → j < k → k < length l → getD l j 0 < getD l k 0
+rises-apart [] a b j k h jk l< = absurd (not-suc-le-zero l<)
+rises-apart (r ∷ l) a b j zero h jk l< = absurd (not-suc-le-zero jk)
+rises-apart (r ∷ l) a b zero (suc k) h jk l< = rises-from l (suc r) b k (h .1) (le-of-suc-le-suc l<)
+rises-apart (r ∷ l) a b (suc j) (suc k) h jk l< = rises-apart l (suc r) b j k (h .1) (le-of-suc-le-suc jk) (le-of-suc-le-suc l<)
 
 -- ---- one step of the walk
 
