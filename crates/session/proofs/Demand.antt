@@ -1,6 +1,6 @@
 -- Document 01, demand 3, over the promises of the session's calls: after any run of feeds, step backs and resets, refused ones among them, the session and
--- the used journal are those of the standing symbols fed in order; a feed and a call for the word answer what the extractor and the TPS decoder answer
--- after the standing symbols. Assumes nothing.
+-- the used journal show what the standing symbols do when they are fed in order; a feed, a step back and a call for the word answer what the extractor and
+-- the TPS decoder answer after the standing symbols. Assumes nothing.
 use mathlib.Core.Path.{_≡_, sym, ap, _∙_, subst}
 use mathlib.Core.Logic.{_↔_}
 use mathlib.Core.List.{List}
@@ -8,74 +8,83 @@ use Prim.Native.Nat.{ℕ, _≤_}
 use lib.Ieee.{Float}
 use lib.ListN.{length, take}
 use Rattle.ground.specs.Refusal.{ACCEPTED}
+use Rattle.carriers.specs.Mode.{Mode, dataSize}
+use Rattle.carriers.proofs.Facts.{Facts}
 use Rattle.tps.specs.declared.receiver.TpsDecoder.{TpsDecoder}
 use Rattle.tps.specs.declared.word.Unpacked.{Unpacked}
 use Rattle.tps.specs.Receive as receive
-use Rattle.tps.proofs.Determined.{word-determined}
 use Rattle.session.specs.declared.Session.{Session}
 use Rattle.session.specs.declared.Fed.{Fed}
 use Rattle.session.specs.declared.SteppedBack.{SteppedBack}
-use Rattle.session.specs.Session.{JOURNAL, decoderOf, Feeds, stepBackAnswer, stepNumber, Words}
-use Rattle.session.specs.History.{Op, Run, standingOf, feeds, used, shown, decoderAfter}
+use Rattle.session.specs.Journal.{journalSize, placesIn, decoderOn}
+use Rattle.session.specs.Session.{decoderOf, Feeds, stepBackAnswer, stepNumber, Words}
+use Rattle.session.specs.History.{Op, Run, standingOf, feeds, cellsOf, decoderAfter, Shown, shown, shownOf}
 use Rattle.session.specs.Demand.{Fits, Steps, FeedRight, BackRight, WordRight}
-use Rattle.session.proofs.Cases.{feed-cases, taken-exactly, stepped-exactly}
-use Rattle.session.proofs.Decoder.{bits-held, decoder-is-after}
-use Rattle.session.proofs.History.{history, same-session, same-used, same-shown, fed-alone}
+use Rattle.session.proofs.Cases.{feed-cases, taken-exactly, step-cases, stepped-exactly}
+use Rattle.session.proofs.Cells.{placed, cells-many, places-row}
+use Rattle.session.proofs.Holding.{after-held, count-is, decoder-is, cells-are}
+use Rattle.session.proofs.History.{history, fed-alone}
 use Rattle.session.proofs.Feeding.{fed-right}
 use Rattle.session.proofs.Stepping.{stepped-right}
-use Rattle.session.proofs.Words.{word-below, word-full, word-one, word-none}
+use Rattle.session.proofs.Words.{word-one, word-full, word-incomplete, word-none}
 
--- any run leaves what feeding the standing symbols in order leaves: the whole session, and the used journal
-pub demand-3-whole : {j₀ j₁ j k : List Float} {os : List Op} {s t : Session} (room : ℕ) → JOURNAL ≤ length j₁ → 3024 ≤ room → Run j₀ os s j
-    → Run j₁ (feeds room (length j₁) (standingOf (length j₀) os)) t k → (s ≡ t) × (used s j ≡ used t k)
-demand-3-whole room journal wide any fed = let g = fed-alone room journal wide any fed in (same-session (history any) g, same-used (history any) g)
+-- what is compared is all of a session's state
+pub same-session : (m : Mode) (j k : List Float) {s t : Session} → shown m s j ≡ shown m t k → s ≡ t
+same-session m j k e = ap (λ (x : Shown). record { prev = x .prev; bits = x .bits; count = x .count }) e
 
--- and so all that is compared
-pub demand-3 : {j₀ j₁ j k : List Float} {os : List Op} {s t : Session} (room : ℕ) → JOURNAL ≤ length j₁ → 3024 ≤ room → Run j₀ os s j
-    → Run j₁ (feeds room (length j₁) (standingOf (length j₀) os)) t k → shown s j ≡ shown t k
-demand-3 room journal wide any fed = same-shown (history any) (fed-alone room journal wide any fed)
+module _ {m : Mode} (f : Facts m) {j₀ j : List Float} {os : List Op} {s : Session} (any : Run m j₀ os s j) where
+  -- any run shows what stands
+  pub demand-3-shown : shown m s j ≡ shownOf m (standingOf m (length j₀) os .symbols)
+  demand-3-shown = history f any .shows
 
--- a feed after any run is right, and accepted exactly where the lengths suffice and fewer than 68 symbols stand
-pub demand-3-feed : {j₀ j : List Float} {os : List Op} {s : Session} (y d : List Float) (m : ℕ) {r : Fed} {d′ p′ : List Float} → Run j₀ os s j
-    → Feeds s y d (take m j) r d′ p′ → FeedRight (standingOf (length j₀) os) s y d (take m j) r d′ p′
-demand-3-feed {j₀} {j} {os} {s} y d m {r} {d′} {p′} any fed =
-    let st : List (List Float) = standingOf (length j₀) os in
-    let h = history any in
-    subst (λ (z : Session). FeedRight st z y d (take m j) r d′ p′) (sym (h .session))
-    (fed-right st y d (take m j) (h .few) (h .tall) (subst (λ (z : Session). Feeds z y d (take m j) r d′ p′) (h .session) fed)
-    (feed-cases (length y) (length d) (length (take m j)) (length st)))
+  -- and so what a new session does that is fed what stands, in order
+  pub demand-3 : {j₁ k : List Float} {t : Session} (room : ℕ) → journalSize m ≤ length j₁ → dataSize m ≤ room
+      → Run m j₁ (feeds room (length j₁) (standingOf m (length j₀) os .symbols)) t k → shown m s j ≡ shown m t k
+  demand-3 room journal wide fed =
+      let h = history f any in
+      h .shows ∙ sym (fed-alone f (standingOf m (length j₀) os) room journal wide (h .tall) (h .few) fed .shows)
 
-pub feed-refused-exactly : {j₀ j : List Float} {os : List Op} {s : Session} (y d : List Float) (m : ℕ) {r : Fed} {d′ p′ : List Float} → Run j₀ os s j
-    → Feeds s y d (take m j) r d′ p′
-    → (receive.bitNumber (r .answer) ≡ ACCEPTED) ↔ Fits (length y) (length d) (length (take m j)) (length (standingOf (length j₀) os))
-feed-refused-exactly {j₀} {j} {os} y d m any fed =
-    rw (demand-3-feed y d m any fed .number) (taken-exactly (length y) (length d) (length (take m j)) (length (standingOf (length j₀) os)))
+  -- as a TPS decoder, the session is what that is after the cells in the used places of the journal
+  pub session-in-journal : decoderOf s ≡ decoderOn m (placesIn m (s .count) j)
+  session-in-journal =
+      let h = history f any in
+      let ys : List (List Float) = standingOf m (length j₀) os .symbols in
+      let n : length (cellsOf m ys) ≡ length ys = cells-many m ys in
+      decoder-is f h ∙ ap (decoderOn m) (sym (places-row m (cellsOf m ys) j (placed f ys) (rw n (cells-are f h))))
+      ∙ ap (λ (k : ℕ). decoderOn m (placesIn m k j)) (n ∙ sym (count-is f h))
 
--- a step back after any run is right, and accepted exactly where the journal suffices and some symbol stands
-pub demand-3-back : {j₀ j : List Float} {os : List Op} {s : Session} (m : ℕ) {r : SteppedBack} → Run j₀ os s j → r ≡ stepBackAnswer s (take m j)
-    → BackRight (standingOf (length j₀) os) s (take m j) r
-demand-3-back m any e = stepped-right m any e
+  -- a feed is right, and accepted exactly where the lengths suffice and fewer than 68 symbols stand
+  module _ (y d : List Float) (l : ℕ) {r : Fed} {d′ p′ : List Float} (fed : Feeds m s y d (take l j) r d′ p′) where
+    pub demand-3-feed : FeedRight m (standingOf m (length j₀) os) s y d (take l j) r d′ p′
+    demand-3-feed =
+        fed-right f (history f any) y d l fed (feed-cases m (length y) (length d) (length (take l j)) (standingOf m (length j₀) os))
 
-pub back-refused-exactly : {j₀ j : List Float} {os : List Op} {s : Session} (m : ℕ) {r : SteppedBack} → Run j₀ os s j → r ≡ stepBackAnswer s (take m j)
-    → (stepNumber (r .answer) ≡ ACCEPTED) ↔ Steps (length (take m j)) (length (standingOf (length j₀) os))
-back-refused-exactly {j₀} {j} {os} m any e =
-    rw (demand-3-back m any e .number) (stepped-exactly (length (take m j)) (length (standingOf (length j₀) os)))
+    pub feed-refused-exactly : (receive.bitNumber (r .answer) ≡ ACCEPTED)
+        ↔ Fits m (length y) (length d) (length (take l j)) (standingOf m (length j₀) os)
+    feed-refused-exactly =
+        rw (demand-3-feed .number) (taken-exactly m (length y) (length d) (length (take l j)) (standingOf m (length j₀) os))
 
--- a call for the word after any run is right, and two answers to one are equal
-pub demand-3-word : {j₀ j : List Float} {os : List Op} {s : Session} {r : Unpacked} → Run j₀ os s j → Words s r → WordRight (standingOf (length j₀) os) r
-demand-3-word {j₀} {j} {os} {s} {r} any w =
-    let st : List (List Float) = standingOf (length j₀) os in
-    let h = history any in
-    let d = decoderAfter st in
-    let e : decoderOf s ≡ d = ap decoderOf (h .session) ∙ decoder-is-after st (h .few) in
-    let v : receive.Words d r = subst (λ (x : TpsDecoder). receive.Words x r) e w in
-    let k = bits-held st (h .few) in
-    record {
-      below = λ l. word-below (length st) d r k l v;
-      full = λ l. word-full d r (rw l at k) v;
-      one = λ l b c hb hc nb nc. word-one d (rw l at k) b c hb hc nb nc;
-      none = λ l. word-none d r (rw l at k) v;
-    }
+  -- a step back is right, and accepted exactly where the journal suffices and some symbol stands
+  module _ (l : ℕ) {r : SteppedBack} (e : r ≡ stepBackAnswer m s (take l j)) where
+    pub demand-3-back : BackRight m (standingOf m (length j₀) os) s (take l j) r
+    demand-3-back = stepped-right f (history f any) l e (step-cases m (length (take l j)) (standingOf m (length j₀) os))
 
-pub same-word : (s : Session) (r q : Unpacked) → Words s r → Words s q → r ≡ q
-same-word s r q h k = word-determined (decoderOf s) r q h k
+    pub back-refused-exactly : (stepNumber (r .answer) ≡ ACCEPTED) ↔ Steps m (length (take l j)) (standingOf m (length j₀) os)
+    back-refused-exactly = rw (demand-3-back .number) (stepped-exactly m (length (take l j)) (standingOf m (length j₀) os))
+
+  -- a call for the word is one on the TPS decoder after the standing symbols, and is right
+  module _ (r : Unpacked) (w : Words s r) where
+    pub words-after : receive.Words (decoderAfter m (standingOf m (length j₀) os .symbols)) r
+    words-after = subst (λ (x : TpsDecoder). receive.Words x r) (decoder-is f (history f any)) w
+
+    pub demand-3-word : WordRight m (standingOf m (length j₀) os) r
+    demand-3-word =
+        let h = history f any in
+        let d = decoderAfter m (standingOf m (length j₀) os .symbols) in
+        let k = after-held f (standingOf m (length j₀) os .symbols) (h .few) in
+        record {
+          incomplete = word-incomplete _ d r (h .few) k words-after;
+          full = λ l. word-full d r (rw l at k) words-after;
+          one = λ l b c hb hc nb nc. word-one d (rw l at k) b c hb hc nb nc;
+          none = word-none _ d r (h .few) k words-after;
+        }

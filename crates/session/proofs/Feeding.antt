@@ -1,68 +1,81 @@
--- A feed with some symbols standing answers what the TPS decoder does after them, in the extractor's phase. Assumes nothing.
+-- A feed with some symbols standing answers what the TPS decoder does after them, in the extractor's phase, and the symbol stands. Assumes nothing.
 use mathlib.Core.Path.{_≡_, refl, sym, ap, _∙_}
 use mathlib.Core.Logic.{_⊎_, inl, inr}
 use mathlib.Core.List.{List, [], _∷_}
 use Prim.Native.Nat.{ℕ, suc, _%_, _≤_}
 use native.Mathlib.Omega.{arith}
 use lib.Ieee.{Float}
-use lib.ListN.{length}
+use lib.ListN.{length, take}
 use borrow.Author.Tests.{le-ltb}
 use Rattle.ground.specs.Refusal.{ACCEPTED}
-use Rattle.carriers.specs.Mode.{mode2k}
+use Rattle.carriers.specs.Mode.{Mode, symbolSize, dataSize}
+use Rattle.carriers.proofs.Facts.{Facts}
 use Rattle.grid.specs.Calls.{extractLeaves}
 use Rattle.tps.specs.declared.receiver.TpsDecoder.{TpsDecoder}
 use Rattle.tps.specs.Receive as receive
+use Rattle.session.specs.declared.Session.{Session}
 use Rattle.session.specs.declared.Fed.{Fed}
-use Rattle.session.specs.Session.{SYMBOLS, tpsCells, sessionOf, feedNoOf, fedBy, inPlace, Feeds}
-use Rattle.session.specs.History.{decoderAfter, extractorAfter}
-use Rattle.session.specs.Demand.{Tall, Fits, FeedRight}
+use Rattle.session.specs.Journal.{tpsCells, inPlace}
+use Rattle.session.specs.Session.{feedNo, fedBy, Feeds}
+use Rattle.session.specs.History.{Standing, many, oneMore, feedNoAfter, decoderAfter, extractorAfter}
+use Rattle.session.specs.Demand.{Tall, Holds, Fits, FeedRight}
 use Rattle.session.proofs.Numbers.{fed-refused, fed-accepted}
-use Rattle.session.proofs.Cases.{fits-taken, same-fed}
-use Rattle.session.proofs.Decoder.{fed-number, bits-held, standing-is-length, decoder-is-after, fed-is-after}
+use Rattle.session.proofs.Cases.{taken-exactly}
+use Rattle.session.proofs.Determined.{same-fed}
+use Rattle.session.proofs.Cells.{tps-length}
+use Rattle.session.proofs.Decoder.{fed-number}
+use Rattle.session.proofs.Holding.{after-held, decoder-is, standing-is, lent-holds, fed-holds}
 
 -- after n symbols the extractor is in phase n mod 4
-extractor-phase : (x : List Float) → 3024 ≤ length x → (st : List (List Float)) → Tall st → extractorAfter x st .phase ≡ length st % 4
+extractor-phase : (m : Mode) (x : List Float) → dataSize m ≤ length x → (ys : List (List Float)) → Tall m ys → extractorAfter m x ys .phase ≡ length ys % 4
 unfolding extractorAfter
-extractor-phase x h [] t = refl
-extractor-phase x h (y ∷ st) t =
-    let p : extractorAfter x st .phase ≡ length st % 4 = extractor-phase x h st (t .1) in
-    simp (le-ltb (length y) 4096 (t .0), le-ltb (length x) 3024 h, p) (omega arith)
+extractor-phase m x h [] t = refl
+extractor-phase m x h (y ∷ ys) t =
+    let p : extractorAfter m x ys .phase ≡ length ys % 4 = extractor-phase m x h ys (t .1) in
+    simp (le-ltb (length y) (symbolSize m) (t .0), le-ltb (length x) (dataSize m) h, p) (omega arith)
 
-module _ (st : List (List Float)) (y d p : List Float) (few : length st ≤ SYMBOLS) (tall : Tall st) {r : Fed} {d′ p′ : List Float}
-    (c : Feeds (sessionOf (decoderAfter st)) y d p r d′ p′) where
-  pub fed-right : Fits (length y) (length d) (length p) (length st) ⊎ ((k : ℕ) × (feedNoOf (length y) (length d) (length p) (length st) ≡ suc k))
-      → FeedRight st (sessionOf (decoderAfter st)) y d p r d′ p′
+-- the journal j is lent up to l
+module _ {m : Mode} (f : Facts m) {lj : ℕ} {st : Standing} {s : Session} {j : List Float} (h : Holds m lj st s j) (y d : List Float) (l : ℕ) {r : Fed}
+    {d′ p′ : List Float} (c : Feeds m s y d (take l j) r d′ p′) where
+  number-is : feedNo m s y d (take l j) ≡ feedNoAfter m (length y) (length d) (length (take l j)) st
+  number-is = rw (standing-is f h)
+
+  pub fed-right : Fits m (length y) (length d) (length (take l j)) st ⊎ ((k : ℕ) × (feedNoAfter m (length y) (length d) (length (take l j)) st ≡ suc k))
+      → FeedRight m st s y d (take l j) r d′ p′
   unfolding fedBy
-  fed-right (inl f) =
-      let s = sessionOf (decoderAfter st) in
-      let t = tpsCells mode2k y in
-      let n = standing-is-length st few in
-      let e : feedNoOf (length y) (length d) (length p) (length st) ≡ ACCEPTED = fits-taken f in
-      let q = same-fed c (fed-accepted s y d p (rw n e)) in
-      let a : r .answer ≡ receive.feedAnswer (decoderAfter st) t .answer =
-      ap (λ (x : Fed). x .answer) (q .0) ∙ ap (λ (x : TpsDecoder). receive.feedAnswer x t .answer) (decoder-is-after st few)
+  fed-right (inl g) =
+      let p = take l j in
+      let t = tpsCells m y in
+      let o = decoderAfter m (st .symbols) in
+      let e : feedNoAfter m (length y) (length d) (length p) st ≡ ACCEPTED = taken-exactly m _ _ _ st .1 g in
+      let q = same-fed c (fed-accepted m s y d p (number-is ∙ e)) in
+      let a : r .answer ≡ receive.feedAnswer m o t .answer =
+      ap (λ (x : Fed). x .answer) (q .0) ∙ ap (λ (x : TpsDecoder). receive.feedAnswer m x t .answer) (decoder-is f h)
       in
-      let o : receive.bitNumber (r .answer) ≡ ACCEPTED =
+      let k : receive.bitNumber (r .answer) ≡ ACCEPTED =
       ap receive.bitNumber a
-      ∙ ap (λ (k : ℕ). receive.bitNumber (receive.bitAnswer k (receive.fedBit (decoderAfter st) t)))
-      (fed-number (length st) (decoderAfter st) y (bits-held st few) (f .few))
+      ∙ ap (λ (z : ℕ). receive.bitNumber (receive.bitAnswer z (receive.fedBit m o t)))
+      (fed-number m (many st) o t (tps-length f y) (after-held f (st .symbols) (h .few)) (g .few))
       in
+      let js : p′ ≡ inPlace m (many st) t p = q .2 ∙ ap (λ (z : ℕ). inPlace m z t p) (standing-is f h) in
+      let ss : r .session ≡ fedBy m s t .session = ap (λ (x : Fed). x .session) (q .0) in
+      let w : Holds m (length p) (oneMore y st) (r .session) p′ = rw (js, ss) (fed-holds f (lent-holds f h l (g .room)) (g .few) (g .room) y (g .tall)) in
       record {
-        number = o ∙ sym e;
+        number = k ∙ sym e;
         answer = λ z. a;
-        session = λ z. ap (λ (x : Fed). x .session) (q .0) ∙ fed-is-after st y few;
+        stands = λ z. w .shows;
         data-cells =
-            λ z x h. q .1 ∙ ap (λ (k : ℕ). extractLeaves mode2k k y d) (omega (arith, n, extractor-phase x h st tall));
-        journal-cells = λ z. q .2 ∙ ap (λ (k : ℕ). inPlace k t p) n;
-        refused = λ z. absurd (z o);
+            λ z x i. q .1 ∙ ap (λ (v : ℕ). extractLeaves m v y d) (omega (arith, standing-is f h, extractor-phase m x i (st .symbols) (h .tall)));
+        journal-cells = λ z. js;
+        refused = λ z. absurd (z k);
       }
   fed-right (inr k) =
-      let q = same-fed c (fed-refused (sessionOf (decoderAfter st)) y d p (k .0) (rw (standing-is-length st few) (k .1))) in
+      let q = same-fed c (fed-refused m s y d (take l j) (k .0) (number-is ∙ k .1)) in
       let a : receive.bitNumber (r .answer) ≡ suc (k .0) = ap (λ (x : Fed). receive.bitNumber (x .answer)) (q .0) in
       record {
         number = a ∙ sym (k .1);
         answer = λ z. absurd (omega (arith, a, z));
-        session = λ z. absurd (omega (arith, a, z));
+        stands = λ z. absurd (omega (arith, a, z));
         data-cells = λ z x h. absurd (omega (arith, a, z));
         journal-cells = λ z. absurd (omega (arith, a, z));
         refused = λ z. (ap (λ (x : Fed). x .session) (q .0), q .1, q .2);

@@ -2,9 +2,11 @@ pub mod Numbers
 pub mod Places
 pub mod Calls
 pub mod Cases
-pub mod Cells
+pub mod Determined
 pub mod Journal
+pub mod Cells
 pub mod Decoder
+pub mod Holding
 pub mod OneCall
 pub mod History
 pub mod Feeding
@@ -13,3 +15,4 @@ pub mod Words
 pub mod Demand
 pub mod Runs
 pub mod Undone
+pub mod Refusals

@@ -1,25 +1,26 @@
--- Which refusal number a feed and a step back have, one law for each way out, and what they promise there. Assumes nothing.
+-- A feed and a step back have each number exactly where document 01 says; and what they promise where they are refused, and where not. Assumes nothing.
 use mathlib.Core.Path.{_≡_}
-use mathlib.Core.List.{List}
+use mathlib.Core.Bool.{not}
+use mathlib.Core.Logic.{_⊎_, _↔_}
+use mathlib.Core.List.{List, [], _∷_}
 use Prim.Native.Nat.{ℕ, suc, _-_, _<_, _≤_}
+use lib.Dec.{T, eqb, ltb, leb}
 use lib.Ieee.{Float}
 use lib.ListN.{length}
-use borrow.Author.Tests.{lt-ltb, le-ltb, le-leb, lt-leb, eq-eqb, ne-eqb}
-use Rattle.ground.specs.Refusal.{ACCEPTED, LENGTH, OUTPUT-SHORT, FULL, EMPTY}
-use Rattle.carriers.specs.Mode.{mode2k}
+use Rattle.ground.specs.Refusal.{ACCEPTED, LENGTH, OUTPUT-SHORT, FULL, EMPTY, Test, _gives_, firstOf}
+use Rattle.ground.proofs.Exactly.{less-decides, at-most-decides, equal-decides, given-here, given-either, given-behind, accepted-last}
+use Rattle.carriers.specs.Mode.{Mode, symbolSize, dataSize}
 use Rattle.grid.specs.Calls.{extractLeaves}
 use Rattle.session.specs.declared.Session.{Session}
 use Rattle.session.specs.declared.StepBack.the-variants as step
+use Rattle.tps.specs.Word.{SYMBOLS}
+use Rattle.session.specs.Journal.{tpsCells, journalSize, inPlace}
 use Rattle.session.specs.Session.{
-  SYMBOLS,
-  JOURNAL,
-  tpsCells,
   standing,
   nextPhase,
   feedNoOf,
   fedBy,
   fedRefused,
-  inPlace,
   feedNo,
   Feeds,
   stepBackNoOf,
@@ -29,60 +30,81 @@ use Rattle.session.specs.Session.{
 
 -- ---- a feed's number: by the lengths of the symbol, the lent data and the lent journal, and how many symbols stand
 
-module _ (symbol out journal n : ℕ) where
-  pub feed-length : symbol < 4096 → feedNoOf symbol out journal n ≡ LENGTH
-  unfolding feedNoOf
-  feed-length h = simp (lt-ltb _ _ h)
+module _ (m : Mode) (symbol out journal n : ℕ) where
+  -- the last test, and those behind each other one
+  abbrev last : List Test
+  last = leb SYMBOLS n gives FULL ∷ []
 
-  pub feed-out : 4096 ≤ symbol → out < 3024 → feedNoOf symbol out journal n ≡ OUTPUT-SHORT
-  unfolding feedNoOf
-  feed-out h o = simp (le-ltb _ _ h, lt-ltb _ _ o)
+  abbrev behind-data : List Test
+  behind-data = ltb journal (journalSize m) gives OUTPUT-SHORT ∷ last
 
-  pub feed-journal : 4096 ≤ symbol → 3024 ≤ out → journal < JOURNAL → feedNoOf symbol out journal n ≡ OUTPUT-SHORT
-  unfolding feedNoOf
-  feed-journal h o j = simp (le-ltb _ _ h, le-ltb _ _ o, lt-ltb _ _ j)
+  abbrev behind-symbol : List Test
+  behind-symbol = ltb out (dataSize m) gives OUTPUT-SHORT ∷ behind-data
 
-  pub feed-full : 4096 ≤ symbol → 3024 ≤ out → JOURNAL ≤ journal → SYMBOLS ≤ n → feedNoOf symbol out journal n ≡ FULL
+  pub feed-length : (feedNoOf m symbol out journal n ≡ LENGTH) ↔ (symbol < symbolSize m)
   unfolding feedNoOf
-  feed-full h o j f = simp (le-ltb _ _ h, le-ltb _ _ o, le-ltb _ _ j, le-leb _ _ f)
+  feed-length = given-here LENGTH behind-symbol (less-decides symbol (symbolSize m)) tt
 
-  pub feed-taken : 4096 ≤ symbol → 3024 ≤ out → JOURNAL ≤ journal → n < SYMBOLS → feedNoOf symbol out journal n ≡ ACCEPTED
+  pub feed-short : (feedNoOf m symbol out journal n ≡ OUTPUT-SHORT)
+      ↔ ((symbolSize m ≤ symbol) × ((out < dataSize m) ⊎ (journal < journalSize m)))
   unfolding feedNoOf
-  feed-taken h o j f = simp (le-ltb _ _ h, le-ltb _ _ o, le-ltb _ _ j, lt-leb _ _ f)
+  feed-short =
+      given-behind LENGTH OUTPUT-SHORT behind-symbol (less-decides symbol (symbolSize m)) tt (λ h.
+      given-either OUTPUT-SHORT behind-data (less-decides out (dataSize m)) (given-here OUTPUT-SHORT last (less-decides journal (journalSize m)) tt))
+
+  -- the lengths suffice, and the last test is left
+  suffice : {P : Type 0} (k : ℕ) → T (not (eqb k LENGTH)) → T (not (eqb k OUTPUT-SHORT)) → (firstOf last ≡ k) ↔ P
+      → (feedNoOf m symbol out journal n ≡ k) ↔ ((symbolSize m ≤ symbol) × ((dataSize m ≤ out) × ((journalSize m ≤ journal) × P)))
+  unfolding feedNoOf
+  suffice k a b h =
+      given-behind LENGTH k behind-symbol (less-decides symbol (symbolSize m)) a (λ i.
+      given-behind OUTPUT-SHORT k behind-data (less-decides out (dataSize m)) b (λ i.
+      given-behind OUTPUT-SHORT k last (less-decides journal (journalSize m)) b (λ i. h)))
+
+  pub feed-full : (feedNoOf m symbol out journal n ≡ FULL)
+      ↔ ((symbolSize m ≤ symbol) × ((dataSize m ≤ out) × ((journalSize m ≤ journal) × (SYMBOLS ≤ n))))
+  feed-full = suffice FULL tt tt (given-here FULL [] (at-most-decides SYMBOLS n) tt)
+
+  pub feed-taken : (feedNoOf m symbol out journal n ≡ ACCEPTED)
+      ↔ ((symbolSize m ≤ symbol) × ((dataSize m ≤ out) × ((journalSize m ≤ journal) × (n < SYMBOLS))))
+  feed-taken = suffice ACCEPTED tt tt (accepted-last FULL (at-most-decides SYMBOLS n) tt)
 
 -- ---- a step back's number: by the length of the lent journal, and how many symbols stand
 
-module _ (journal n : ℕ) where
-  pub step-short : journal < JOURNAL → stepBackNoOf journal n ≡ OUTPUT-SHORT
-  unfolding stepBackNoOf
-  step-short h = simp (lt-ltb _ _ h)
+module _ (m : Mode) (journal n : ℕ) where
+  abbrev behind : List Test
+  behind = eqb n 0 gives EMPTY ∷ []
 
-  pub step-none : JOURNAL ≤ journal → n ≡ 0 → stepBackNoOf journal n ≡ EMPTY
+  pub step-short : (stepBackNoOf m journal n ≡ OUTPUT-SHORT) ↔ (journal < journalSize m)
   unfolding stepBackNoOf
-  step-none h e = simp (le-ltb _ _ h, eq-eqb _ _ e)
+  step-short = given-here OUTPUT-SHORT behind (less-decides journal (journalSize m)) tt
 
-  pub step-taken : JOURNAL ≤ journal → (n ≡ 0 → ⊥) → stepBackNoOf journal n ≡ ACCEPTED
+  pub step-empty : (stepBackNoOf m journal n ≡ EMPTY) ↔ ((journalSize m ≤ journal) × (n ≡ 0))
   unfolding stepBackNoOf
-  step-taken h e = simp (le-ltb _ _ h, ne-eqb _ _ e)
+  step-empty = given-behind OUTPUT-SHORT EMPTY behind (less-decides journal (journalSize m)) tt (λ h. given-here EMPTY [] (equal-decides n 0) tt)
+
+  pub step-taken : (stepBackNoOf m journal n ≡ ACCEPTED) ↔ ((journalSize m ≤ journal) × (n ≡ 0 → ⊥))
+  unfolding stepBackNoOf
+  step-taken = given-behind OUTPUT-SHORT ACCEPTED behind (less-decides journal (journalSize m)) tt (λ h. accepted-last EMPTY (equal-decides n 0) tt)
 
 -- ---- the promises by cases of the number
 
-module _ (s : Session) (symbol out journal : List Float) where
-  pub fed-refused : (k : ℕ) → feedNo s symbol out journal ≡ suc k → Feeds s symbol out journal (fedRefused (suc k) s) out journal
+module _ (m : Mode) (s : Session) (symbol out journal : List Float) where
+  pub fed-refused : (k : ℕ) → feedNo m s symbol out journal ≡ suc k → Feeds m s symbol out journal (fedRefused (suc k) s) out journal
   fed-refused k e = record { result = simp e; data-cells = simp e; journal-cells = simp e }
 
   pub fed-accepted :
-      feedNo s symbol out journal ≡ ACCEPTED
-      → Feeds s symbol out journal (fedBy s (tpsCells mode2k symbol)) (extractLeaves mode2k (nextPhase s) symbol out)
-      (inPlace (standing s) (tpsCells mode2k symbol) journal)
+      feedNo m s symbol out journal ≡ ACCEPTED
+      → Feeds m s symbol out journal (fedBy m s (tpsCells m symbol)) (extractLeaves m (nextPhase s) symbol out)
+      (inPlace m (standing s) (tpsCells m symbol) journal)
   fed-accepted e = record { result = simp e; data-cells = simp e; journal-cells = simp e }
 
-module _ (s : Session) (journal : List Float) where
+module _ (m : Mode) (s : Session) (journal : List Float) where
   pub stepped-refused :
-      (k : ℕ) → stepBackNoOf (length journal) (standing s) ≡ suc k → stepBackAnswer s journal ≡ record { answer = step.Refused (suc k); session = s }
+      (k : ℕ) → stepBackNoOf m (length journal) (standing s) ≡ suc k → stepBackAnswer m s journal ≡ record { answer = step.Refused (suc k); session = s }
   stepped-refused k e = simp e
 
   pub stepped-taken :
-      stepBackNoOf (length journal) (standing s) ≡ ACCEPTED
-      → stepBackAnswer s journal ≡ record { answer = step.Done; session = backTo (standing s - 1) s journal }
+      stepBackNoOf m (length journal) (standing s) ≡ ACCEPTED
+      → stepBackAnswer m s journal ≡ record { answer = step.Done; session = backTo m (standing s - 1) s journal }
   stepped-taken e = simp e

@@ -1,42 +1,43 @@
 -- A step back with some symbols standing says its number, and takes the latest one back where that is 0. Assumes nothing.
-use mathlib.Core.Path.{_≡_, refl, sym, ap, _∙_}
+use mathlib.Core.Path.{_≡_, ap, _∙_}
+use mathlib.Core.Logic.{_⊎_, inl, inr}
 use mathlib.Core.List.{List}
-use Prim.Native.Nat.{ℕ, zero, suc}
+use Prim.Native.Nat.{ℕ, suc, _-_}
 use native.Mathlib.Omega.{arith}
 use lib.Ieee.{Float}
 use lib.ListN.{length, take}
-use Rattle.ground.specs.Answer.{kept}
+use Rattle.ground.specs.Refusal.{ACCEPTED}
+use Rattle.carriers.specs.Mode.{Mode}
+use Rattle.carriers.proofs.Facts.{Facts}
 use Rattle.session.specs.declared.Session.{Session}
 use Rattle.session.specs.declared.SteppedBack.{SteppedBack}
-use Rattle.session.specs.Session.{standing, sessionOf, stepBackNoOf, stepBackAnswer, stepNumber}
-use Rattle.session.specs.History.{Op, back, BackCall, Run, next, tail, after, standingOf, decoderAfter}
-use Rattle.session.specs.Demand.{BackRight}
-use Rattle.session.proofs.Cases.{stepped-number}
+use Rattle.session.specs.Session.{standing, stepBackNo, backTo, stepBackAnswer, stepNumber}
+use Rattle.session.specs.History.{Standing, oneFewer, stepBackNoAfter}
+use Rattle.session.specs.Demand.{Holds, Steps, BackRight}
+use Rattle.session.proofs.Numbers.{stepped-refused, stepped-taken}
+use Rattle.session.proofs.Cases.{stepped-exactly}
+use Rattle.session.proofs.Determined.{step-says}
 use Rattle.session.proofs.Journal.{lent-length}
-use Rattle.session.proofs.Decoder.{standing-is-length}
-use Rattle.session.proofs.History.{history}
+use Rattle.session.proofs.Holding.{standing-is, lent-holds}
+use Rattle.session.proofs.OneCall.{one-fewer}
 
-back-right : (st : List (List Float)) (s : Session) (p : List Float) (r : SteppedBack) (n : ℕ) → n ≡ stepBackNoOf (length p) (length st)
-    → stepNumber (r .answer) ≡ n → s ≡ sessionOf (decoderAfter st) → r .session ≡ sessionOf (decoderAfter (kept n (tail st) st)) → BackRight st s p r
-back-right st s p r zero e a h g = record { number = a ∙ e; session = λ z. g; refused = λ z. absurd (z a) }
-back-right st s p r (suc n) e a h g =
-    record { number = a ∙ e; session = λ z. absurd (omega (arith, a, z)); refused = λ z. g ∙ sym h }
+-- the journal j is lent up to l
+module _ {m : Mode} (f : Facts m) {lj : ℕ} {st : Standing} {s : Session} {j : List Float} (h : Holds m lj st s j) (l : ℕ) {r : SteppedBack}
+    (e : r ≡ stepBackAnswer m s (take l j)) where
+  number-is : stepBackNo m s (take l j) ≡ stepBackNoAfter m (length (take l j)) st
+  number-is = rw (standing-is f h)
 
-module _ {j₀ j : List Float} {os : List Op} {s : Session} (m : ℕ) {r : SteppedBack} (any : Run j₀ os s j) (e : r ≡ stepBackAnswer s (take m j)) where
-  number-says : stepNumber (r .answer) ≡ stepBackNoOf (length (take m j)) (length (standingOf (length j₀) os))
-  number-says =
-      let st : List (List Float) = standingOf (length j₀) os in
-      let h = history any in
-      ap (λ (x : SteppedBack). stepNumber (x .answer)) e ∙ stepped-number s (take m j)
-      ∙ ap (stepBackNoOf (length (take m j))) (ap standing (h .session) ∙ standing-is-length st (h .few))
+  number-says : stepNumber (r .answer) ≡ stepBackNoAfter m (length (take l j)) st
+  number-says = ap (λ (x : SteppedBack). stepNumber (x .answer)) e ∙ step-says (stepBackNo m s (take l j)) ∙ number-is
 
-  session-left : r .session
-      ≡ sessionOf (decoderAfter (kept (stepBackNoOf (length (take m j)) (length (standingOf (length j₀) os)))
-      (tail (standingOf (length j₀) os)) (standingOf (length j₀) os)))
-  unfolding standingOf after
-  session-left =
-      let c : BackCall m s j (r .session) j = record { answer = r; promise = e; session = refl; journal = refl } in
-      rw (lent-length m (length j₀) j (history any .size)) (history (next (back m) any c) .session)
-
-  pub stepped-right : BackRight (standingOf (length j₀) os) s (take m j) r
-  stepped-right = back-right (standingOf (length j₀) os) s (take m j) r _ refl number-says (history any .session) session-left
+  pub stepped-right : Steps m (length (take l j)) st ⊎ ((k : ℕ) × (stepBackNoAfter m (length (take l j)) st ≡ suc k)) → BackRight m st s (take l j) r
+  stepped-right (inl g) =
+      let a : stepBackNoAfter m (length (take l j)) st ≡ ACCEPTED = stepped-exactly m _ st .1 g in
+      let ss : r .session ≡ backTo m (standing s - 1) s (take l j) =
+      ap (λ (x : SteppedBack). x .session) (e ∙ stepped-taken m s (take l j) (number-is ∙ a))
+      in
+      let w : Holds m lj (oneFewer st) (r .session) j = rw ss (one-fewer f l (st .symbols) h (rw (lent-length l lj j (h .size)) at g)) in
+      record { number = number-says; stands = λ z. lent-holds f w l (g .room) .shows; refused = λ z. absurd (z (number-says ∙ a)) }
+  stepped-right (inr k) =
+      let ss : r .session ≡ s = ap (λ (x : SteppedBack). x .session) (e ∙ stepped-refused m s (take l j) (k .0) (number-is ∙ k .1)) in
+      record { number = number-says; stands = λ z. absurd (omega (arith, number-says, k .1, z)); refused = λ z. ss }

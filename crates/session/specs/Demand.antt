@@ -1,14 +1,14 @@
 -- Document 01, demand 3: what its theorems claim of a session and its journal with some symbols standing, of a feed,
 -- of a step back and of a call for the word, where orion-sdr's two types are `decoderAfter` and `extractorAfter`
--- (History).
+-- (History). All but a refused call's state is said of what is compared.
 use mathlib.Core.Path.{_≡_}
 use mathlib.Core.Logic.{_⊎_, _↔_}
 use mathlib.Core.List.{List, [], _∷_}
-use Prim.Native.Nat.{ℕ, _*_, _<_, _≤_}
+use Prim.Native.Nat.{ℕ, _<_, _≤_}
 use lib.Ieee.{Float}
-use lib.ListN.{length, take, drop}
+use lib.ListN.{length, drop}
 use Rattle.ground.specs.Refusal.{ACCEPTED, NO-WORD, INCOMPLETE}
-use Rattle.carriers.specs.Mode.{mode2k}
+use Rattle.carriers.specs.Mode.{Mode, symbolSize, dataSize}
 use Rattle.bch.specs.Code.{Codeword, distance, Lone}
 use Rattle.grid.specs.Calls.{extractLeaves, phaseOf}
 use Rattle.tps.specs.declared.word.Unpacked.{Unpacked}
@@ -18,62 +18,78 @@ use Rattle.tps.specs.Receive.{bitNumber, feedAnswer}
 use Rattle.session.specs.declared.Session.{Session}
 use Rattle.session.specs.declared.Fed.{Fed}
 use Rattle.session.specs.declared.SteppedBack.{SteppedBack}
-use Rattle.session.specs.Session.{SYMBOLS, PLACE, JOURNAL, tpsCells, sessionOf, feedNoOf, inPlace, stepBackNoOf}
+use Rattle.tps.specs.Word.{SYMBOLS}
+use Rattle.session.specs.Journal.{tpsCells, journalSize, inPlace}
 use Rattle.session.specs.Session.{stepNumber}
-use Rattle.session.specs.History.{tail, decoderAfter, extractorAfter, cellsOf}
+use Rattle.session.specs.History.{
+  Standing,
+  many,
+  oneMore,
+  oneFewer,
+  feedNoAfter,
+  stepBackNoAfter,
+  decoderAfter,
+  extractorAfter,
+  shown,
+  shownOf,
+}
 
--- every symbol has at least 2,048 cells
-abbrev pub Tall : List (List Float) → Type 0
-Tall [] = Unit {0}
-Tall (y ∷ st) = (4096 ≤ length y) × Tall st
+-- every symbol has at least the mode's cells
+abbrev pub Tall : Mode → List (List Float) → Type 0
+Tall m [] = Unit {0}
+Tall m (y ∷ ys) = (symbolSize m ≤ length y) × Tall m ys
 
--- with the symbols st standing: the session s is what the TPS decoder is after them, and the journal j, of lj f32,
--- begins with their cells
-pub record Holds (lj : ℕ) (st : List (List Float)) (s : Session) (j : List Float) : Type 0 where
-  pub session : s ≡ sessionOf (decoderAfter st)
-  pub few : length st ≤ SYMBOLS
-  pub tall : Tall st
+-- with st standing: the session s and the journal j, of lj f32, show it
+pub record Holds (m : Mode) (lj : ℕ) (st : Standing) (s : Session) (j : List Float) : Type 0 where
+  pub shows : shown m s j ≡ shownOf m (st .symbols)
+  pub few : many st ≤ SYMBOLS
+  pub tall : Tall m (st .symbols)
   pub size : length j ≡ lj
-  pub cells : take (length st * PLACE) j ≡ cellsOf st
 
--- what a feed asks of the lengths of the symbol, the lent data and the lent journal, and of how many symbols stand
-pub record Fits (symbol out journal n : ℕ) : Type 0 where
-  pub tall : 4096 ≤ symbol
-  pub wide : 3024 ≤ out
-  pub room : JOURNAL ≤ journal
-  pub few : n < SYMBOLS
+-- what a feed asks of the lengths of the symbol, the lent data and the lent journal, and of what stands
+pub record Fits (m : Mode) (symbol out journal : ℕ) (st : Standing) : Type 0 where
+  pub tall : symbolSize m ≤ symbol
+  pub wide : dataSize m ≤ out
+  pub room : journalSize m ≤ journal
+  pub few : many st < SYMBOLS
 
--- what a step back asks of the length of the lent journal, and of how many symbols stand
-pub record Steps (journal n : ℕ) : Type 0 where
-  pub room : JOURNAL ≤ journal
-  pub some : n ≡ 0 → ⊥
+-- what a step back asks of the length of the lent journal, and of what stands
+pub record Steps (m : Mode) (journal : ℕ) (st : Standing) : Type 0 where
+  pub room : journalSize m ≤ journal
+  pub some : many st ≡ 0 → ⊥
 
 -- a feed of the symbol y to the session s with st standing, where the data d and the journal p are lent. Accepted, it
 -- answers what the TPS decoder does after the standing symbols, leaves the data cells of the extractor after them,
 -- whatever output x that one wrote to, and the symbol stands; refused, it changes nothing
-pub record FeedRight (st : List (List Float)) (s : Session) (y d p : List Float) (r : Fed) (d′ p′ : List Float) : Type 0 where
-  pub number : bitNumber (r .answer) ≡ feedNoOf (length y) (length d) (length p) (length st)
-  pub answer : bitNumber (r .answer) ≡ ACCEPTED → r .answer ≡ feedAnswer (decoderAfter st) (tpsCells mode2k y) .answer
-  pub session : bitNumber (r .answer) ≡ ACCEPTED → r .session ≡ sessionOf (decoderAfter (y ∷ st))
-  pub data-cells : bitNumber (r .answer) ≡ ACCEPTED → (x : List Float) → 3024 ≤ length x
-      → d′ ≡ extractLeaves mode2k (phaseOf (extractorAfter x st .phase)) y d
-  pub journal-cells : bitNumber (r .answer) ≡ ACCEPTED → p′ ≡ inPlace (length st) (tpsCells mode2k y) p
+pub record FeedRight (m : Mode) (st : Standing) (s : Session) (y d p : List Float) (r : Fed) (d′ p′ : List Float)
+    : Type 0 where
+  pub number : bitNumber (r .answer) ≡ feedNoAfter m (length y) (length d) (length p) st
+  pub answer : bitNumber (r .answer) ≡ ACCEPTED
+      → r .answer ≡ feedAnswer m (decoderAfter m (st .symbols)) (tpsCells m y) .answer
+  pub stands : bitNumber (r .answer) ≡ ACCEPTED → shown m (r .session) p′ ≡ shownOf m (oneMore y st .symbols)
+  pub data-cells : bitNumber (r .answer) ≡ ACCEPTED → (x : List Float) → dataSize m ≤ length x
+      → d′ ≡ extractLeaves m (phaseOf (extractorAfter m x (st .symbols) .phase)) y d
+  pub journal-cells : bitNumber (r .answer) ≡ ACCEPTED → p′ ≡ inPlace m (many st) (tpsCells m y) p
   pub refused : (bitNumber (r .answer) ≡ ACCEPTED → ⊥) → (r .session ≡ s) × (d′ ≡ d) × (p′ ≡ p)
 
 -- a step back of the session s with st standing, where the journal p is lent: done, the latest symbol no longer
 -- stands; refused, it changes nothing
-pub record BackRight (st : List (List Float)) (s : Session) (p : List Float) (r : SteppedBack) : Type 0 where
-  pub number : stepNumber (r .answer) ≡ stepBackNoOf (length p) (length st)
-  pub session : stepNumber (r .answer) ≡ ACCEPTED → r .session ≡ sessionOf (decoderAfter (tail st))
+pub record BackRight (m : Mode) (st : Standing) (s : Session) (p : List Float) (r : SteppedBack) : Type 0 where
+  pub number : stepNumber (r .answer) ≡ stepBackNoAfter m (length p) st
+  pub stands : stepNumber (r .answer) ≡ ACCEPTED → shown m (r .session) p ≡ shownOf m (oneFewer st .symbols)
   pub refused : (stepNumber (r .answer) ≡ ACCEPTED → ⊥) → r .session ≡ s
 
--- a call for the word with st standing: with fewer than 68, INCOMPLETE; with 68, what the codeword within two of the
--- bits s1..s67 tells (a word, or that a code is reserved), of which there is at most one, and NO WORD exactly when
+-- the bits s1..s67 of what was received, with the symbols ys standing
+abbrev pub received : Mode → List (List Float) → List ℕ
+received m ys = drop 1 (decoderAfter m ys .bits)
+
+-- a call for the word with st standing: INCOMPLETE exactly with fewer than 68; with 68, what the codeword within two of
+-- the bits s1..s67 tells (a word, or that a code is reserved), of which there is at most one, and NO WORD exactly when
 -- there is none
-pub record WordRight (st : List (List Float)) (r : Unpacked) : Type 0 where
-  pub below : length st < SYMBOLS → r ≡ unpacked.Refused INCOMPLETE
-  pub full : length st ≡ SYMBOLS
-      → Received (drop 1 (decoderAfter st .bits)) r ⊎ (Lone (drop 1 (decoderAfter st .bits)) × (r ≡ unpacked.Refused NO-WORD))
-  pub one : length st ≡ SYMBOLS → (b c : List ℕ) → Codeword b → Codeword c → distance b (drop 1 (decoderAfter st .bits)) ≤ 2
-      → distance c (drop 1 (decoderAfter st .bits)) ≤ 2 → b ≡ c
-  pub none : length st ≡ SYMBOLS → (r ≡ unpacked.Refused NO-WORD) ↔ Lone (drop 1 (decoderAfter st .bits))
+pub record WordRight (m : Mode) (st : Standing) (r : Unpacked) : Type 0 where
+  pub incomplete : (r ≡ unpacked.Refused INCOMPLETE) ↔ (many st < SYMBOLS)
+  pub full : many st ≡ SYMBOLS
+      → Received (received m (st .symbols)) r ⊎ (Lone (received m (st .symbols)) × (r ≡ unpacked.Refused NO-WORD))
+  pub one : many st ≡ SYMBOLS → (b c : List ℕ) → Codeword b → Codeword c → distance b (received m (st .symbols)) ≤ 2
+      → distance c (received m (st .symbols)) ≤ 2 → b ≡ c
+  pub none : (r ≡ unpacked.Refused NO-WORD) ↔ ((many st ≡ SYMBOLS) × Lone (received m (st .symbols)))

@@ -1,3 +1,4 @@
+pub mod Journal
 pub mod Session
 pub mod History
 pub mod Demand

@@ -1,23 +1,33 @@
 // The receive session: the extractor and the TPS decoder joined, with a journal that steps back.
+use carriers::DATA_FLOATS;
+use carriers::SYMBOL_FLOATS;
+use carriers::TPS_CARRIER_COUNT;
+use carriers::TPS_FLOATS;
 use grid::ScatteredPilotExtractor;
 use ground::Cell;
+use tps::TPS_SYMBOLS_PER_FRAME;
 use tps::TpsBit;
 use tps::TpsDecoder;
 use tps::Unpacked;
 ghost use mathlib.Core.Path.{_≡_};
 ghost use Prim.Native.Nat.{_≤_, _<_};
 ghost use lib.ListN.{length};
-ghost use Rattle.carriers.specs.Mode.{mode2k};
+ghost use Rattle.carriers.specs.Mode.{mode2k, symbolSize};
 ghost use Rattle.grid.specs.Calls.{phaseOf, extractLeaves};
-ghost use Rattle.session.specs.Session.{tpsCells, nextPhase, decoderOf, sessionOf, fresh, fedBy, fedRefused};
-ghost use Rattle.session.specs.Session.{inPlace, Feeds, prevIn, stepBackAnswer, Words};
+ghost use Rattle.tps.specs.Word.{SYMBOLS};
+ghost use Rattle.session.specs.Journal.{tpsCells, journalSize, placeOf, inPlace, prevIn};
+ghost use Rattle.session.specs.Session.{nextPhase, decoderOf, sessionOf, fresh, fedBy, fedRefused, Feeds};
+ghost use Rattle.session.specs.Session.{stepBackAnswer, Words};
+
+// The f32 of a journal: a place for the TPS cells of each symbol of a frame.
+pub const JOURNAL_FLOATS: usize = TPS_SYMBOLS_PER_FRAME * TPS_FLOATS;
 
 // The session: the previous symbol's TPS cells, the bits, and how many symbols stand. A count above 68 is read as 68,
 // a held bit above 1 as 1, and a bit that doesn't stand as 0.
 #[repr(C)]
 pub struct Session {
-    pub prev: [Cell; 17],
-    pub bits: [u8; 68],
+    pub prev: [Cell; TPS_CARRIER_COUNT],
+    pub bits: [u8; TPS_SYMBOLS_PER_FRAME],
     pub count: usize,
 }
 
@@ -39,35 +49,43 @@ pub struct SteppedBack {
     pub session: Session,
 }
 
-// The 17 TPS cells of a symbol, in rising active order, re and im in turn.
-fn tps_cells(symbol: &[f32]) -> [f32; 34]
-    requires { ⌜ 4096 ≤ length (now symbol) ⌝ }
+// The TPS cells of a symbol, in rising active order, re and im in turn.
+fn tps_cells(symbol: &[f32]) -> [f32; TPS_FLOATS]
+    requires { ⌜ symbolSize mode2k ≤ length (now symbol) ⌝ }
     ensures { λ r. ⌜ r ≡ tpsCells mode2k (now (symbol .entry)) ⌝ }
 {
     let bins = carriers::inner::tps_carrier_bins();
-    let mut cells = [0.0f32; 34];
+    let mut cells = [0.0f32; TPS_FLOATS];
     grid::inner::gather(&bins, symbol, &mut cells);
     cells
 }
 
-// A symbol's TPS cells into place n of the journal.
-fn put_cells(cells: [f32; 34], n: usize, journal: &mut [f32])
-    requires { ⌜ (n < 68) × (2312 ≤ length (now journal)) ⌝ }
-    ensures { λ _. ⌜ now (journal .exit) ≡ inPlace n cells (now (journal .entry)) ⌝ }
+// Where the place of symbol n of the journal begins.
+fn place_of(n: usize) -> usize
+    requires { ⌜ n ≤ SYMBOLS ⌝ }
+    ensures { λ r. ⌜ r ≡ placeOf mode2k n ⌝ }
 {
-    let from = n * 34;
-    ground::inner::copy_cells(&cells, &mut journal[from..from + 34]);
+    n * TPS_FLOATS
+}
+
+// A symbol's TPS cells into the place of symbol n of the journal.
+fn put_cells(cells: [f32; TPS_FLOATS], n: usize, journal: &mut [f32])
+    requires { ⌜ (n < SYMBOLS) × (journalSize mode2k ≤ length (now journal)) ⌝ }
+    ensures { λ _. ⌜ now (journal .exit) ≡ inPlace mode2k n cells (now (journal .entry)) ⌝ }
+{
+    let from = place_of(n);
+    ground::inner::copy_cells(&cells, &mut journal[from..from + TPS_FLOATS]);
 }
 
 // The previous cells with n symbols standing, out of the journal.
-fn cells_before(n: usize, journal: &[f32]) -> [Cell; 17]
-    requires { ⌜ (n ≤ 68) × (2312 ≤ length (now journal)) ⌝ }
-    ensures { λ r. ⌜ r ≡ prevIn n (now (journal .entry)) ⌝ }
+fn cells_before(n: usize, journal: &[f32]) -> [Cell; TPS_CARRIER_COUNT]
+    requires { ⌜ (n ≤ SYMBOLS) × (journalSize mode2k ≤ length (now journal)) ⌝ }
+    ensures { λ r. ⌜ r ≡ prevIn mode2k n (now (journal .entry)) ⌝ }
 {
     if n == 0 {
-        return [Cell { re: 0.0, im: 0.0 }; 17];
+        return [Cell { re: 0.0, im: 0.0 }; TPS_CARRIER_COUNT];
     }
-    let from = (n - 1) * 34;
+    let from = place_of(n - 1);
     tps::inner::first_cells(&journal[from..])
 }
 
@@ -82,7 +100,7 @@ fn extract(n: usize, symbol: &[f32], out: &mut [f32])
 impl Session {
     // A session at the start of a frame.
     pub fn new() -> Self
-        ensures { λ r. ⌜ r ≡ fresh ⌝ }
+        ensures { λ r. ⌜ r ≡ fresh mode2k ⌝ }
     {
         let decoder = TpsDecoder::new();
         Session::from_decoder(decoder)
@@ -90,7 +108,7 @@ impl Session {
 
     // The session at the start of a frame again.
     pub fn reset(self) -> Self
-        ensures { λ r. ⌜ r ≡ fresh ⌝ }
+        ensures { λ r. ⌜ r ≡ fresh mode2k ⌝ }
     {
         Session::new()
     }
@@ -112,14 +130,12 @@ impl Session {
     fn decoder(self) -> TpsDecoder
         ensures { λ r. ⌜ r ≡ decoderOf self ⌝ }
     {
-        let count = tps::inner::standing_count(self.count);
         let prev = self.prev;
         let bits = self.bits;
-        let held = tps::inner::held_bits(bits, count);
         TpsDecoder {
             prev,
-            bits: held,
-            count,
+            bits,
+            count: self.count,
         }
     }
 
@@ -131,8 +147,8 @@ impl Session {
     }
 
     // The answer to a symbol's TPS cells, with the session after it.
-    fn take_bit(self, cells: [f32; 34]) -> Fed
-        ensures { λ r. ⌜ r ≡ fedBy self cells ⌝ }
+    fn take_bit(self, cells: [f32; TPS_FLOATS]) -> Fed
+        ensures { λ r. ⌜ r ≡ fedBy mode2k self cells ⌝ }
     {
         let fed = self.decoder().feed_symbol(&cells);
         let answer = fed.answer;
@@ -153,20 +169,20 @@ impl Session {
 
     // One symbol of 2,048 cells: its data cells to the lent output, its TPS cells to the journal, and its TPS bit.
     pub fn feed(self, symbol: &[f32], out: &mut [f32], journal: &mut [f32]) -> Fed
-        ensures { λ r. ⌜ Feeds self (now (symbol .entry)) (now (out .entry)) (now (journal .entry)) r
+        ensures { λ r. ⌜ Feeds mode2k self (now (symbol .entry)) (now (out .entry)) (now (journal .entry)) r
             (now (out .exit)) (now (journal .exit)) ⌝ }
     {
-        if symbol.len() < 4096 {
+        if symbol.len() < SYMBOL_FLOATS {
             return self.refused(ground::LENGTH);
         }
-        if out.len() < 3024 {
+        if out.len() < DATA_FLOATS {
             return self.refused(ground::OUTPUT_SHORT);
         }
-        if journal.len() < 2312 {
+        if journal.len() < JOURNAL_FLOATS {
             return self.refused(ground::OUTPUT_SHORT);
         }
         let n = self.count;
-        if 68 <= n {
+        if TPS_SYMBOLS_PER_FRAME <= n {
             return self.refused(ground::FULL);
         }
         extract(n, symbol, out);
@@ -177,9 +193,9 @@ impl Session {
 
     // The latest standing symbol is taken back: the session with the one before it as the latest.
     pub fn step_back(self, journal: &[f32]) -> SteppedBack
-        ensures { λ r. ⌜ r ≡ stepBackAnswer self (now (journal .entry)) ⌝ }
+        ensures { λ r. ⌜ r ≡ stepBackAnswer mode2k self (now (journal .entry)) ⌝ }
     {
-        if journal.len() < 2312 {
+        if journal.len() < JOURNAL_FLOATS {
             return SteppedBack {
                 answer: StepBack::Refused(ground::OUTPUT_SHORT),
                 session: self,

@@ -1,6 +1,8 @@
 -- `session::Session::feed` meets its contract: the tests give the number, and the callees the data cells, the journal and the bit. Assumes nothing.
+use mathlib.Core.Logic.{inl, inr}
 use native.Mathlib.Omega.{arith}
-use Rattle.session.proofs.Numbers.{feed-length, feed-out, feed-journal, feed-full}
+use Rattle.carriers.specs.Mode.{mode2k}
+use Rattle.session.proofs.Numbers.{feed-length, feed-short, feed-full}
 use Rattle.session.proofs.Calls.{fed-refused-by, fed-done}
 use borrow.Author.Needs.{needs}
 use Rattle.session.proofs.Session.feed.Statement.{statement}
@@ -12,8 +14,8 @@ refused-requires c κs = search needs
 returns : tie.Need-returns
 returns c =
     let a = c .before .before .before .before .before .args in
-    fed-refused-by (a .self) (a .symbol .now) (a .out .now) (a .journal .now) 0
-    (feed-length _ _ _ _ (c .before .if1 .taken)) (c .refused .ensures)
+    fed-refused-by mode2k (a .self) (a .symbol .now) (a .out .now) (a .journal .now) 0
+    (feed-length mode2k _ _ _ _ .1 (c .before .if1 .taken)) (c .refused .ensures)
 
 refused-requires-2 : tie.Need-refused-requires-2
 refused-requires-2 c κs = search needs
@@ -21,8 +23,8 @@ refused-requires-2 c κs = search needs
 returns-2 : tie.Need-returns-2
 returns-2 c =
     let a = c .before .before .before .before .before .before .args in
-    fed-refused-by (a .self) (a .symbol .now) (a .out .now) (a .journal .now) 2
-    (feed-out _ _ _ _ (c .before .before .if1 .left) (c .before .if2 .taken)) (c .refused2 .ensures)
+    fed-refused-by mode2k (a .self) (a .symbol .now) (a .out .now) (a .journal .now) 2
+    (feed-short mode2k _ _ _ _ .1 (c .before .before .if1 .left, inl (c .before .if2 .taken))) (c .refused2 .ensures)
 
 refused-requires-3 : tie.Need-refused-requires-3
 refused-requires-3 c κs = search needs
@@ -30,8 +32,8 @@ refused-requires-3 c κs = search needs
 returns-3 : tie.Need-returns-3
 returns-3 c =
     let a = c .before .before .before .before .before .before .before .args in
-    fed-refused-by (a .self) (a .symbol .now) (a .out .now) (a .journal .now) 2
-    (feed-journal _ _ _ _ (c .before .before .before .if1 .left) (c .before .before .if2 .left) (c .before .if3 .taken)) (c .refused3 .ensures)
+    fed-refused-by mode2k (a .self) (a .symbol .now) (a .out .now) (a .journal .now) 2
+    (feed-short mode2k _ _ _ _ .1 (c .before .before .before .if1 .left, inr (c .before .if3 .taken))) (c .refused3 .ensures)
 
 refused-requires-4 : tie.Need-refused-requires-4
 refused-requires-4 c κs = search needs
@@ -39,9 +41,10 @@ refused-requires-4 c κs = search needs
 returns-4 : tie.Need-returns-4
 returns-4 c =
     let a = c .before .before .before .before .before .before .before .before .args in
-    fed-refused-by (a .self) (a .symbol .now) (a .out .now) (a .journal .now) 5
-    (feed-full _ _ _ _ (c .before .before .before .before .if1 .left) (c .before .before .before .if2 .left) (c .before .before .if3 .left)
-    (omega (arith, c .before .if4 .taken))) (c .refused4 .ensures)
+    fed-refused-by mode2k (a .self) (a .symbol .now) (a .out .now) (a .journal .now) 5
+    (feed-full mode2k _ _ _ _ .1
+    (c .before .before .before .before .if1 .left, (c .before .before .before .if2 .left, (c .before .before .if3 .left, omega (arith, c .before .if4 .taken)))))
+    (c .refused4 .ensures)
 
 extract-requires : tie.Need-extract-requires
 extract-requires c κs = search needs
@@ -65,7 +68,7 @@ returns-5 : tie.Need-returns-5
 returns-5 c =
     let tests = c .before .before .before .before .before .before .before .before .before .before in
     let a = tests .before .before .before .before .before .before .before .args in
-    fed-done (a .self) (a .symbol .now) (a .out .now) (a .journal .now)
+    fed-done mode2k (a .self) (a .symbol .now) (a .out .now) (a .journal .now)
     (tests .before .before .before .if1 .left) (tests .before .before .if2 .left) (tests .before .if3 .left) (tests .if4 .left)
     (c .before .before .before .before .before .before .before .before .extract .ensures) (c .before .before .before .before .before .tps-cells .ensures)
     (c .before .before .before .put-cells .ensures) (c .take-bit .ensures)

@@ -1,5 +1,6 @@
 -- `session::Session::step_back` meets its contract: the tests give the number, and the callees the bits and the previous cells. Assumes nothing.
 use mathlib.Core.Path.{sym}
+use Rattle.carriers.specs.Mode.{mode2k}
 use Rattle.session.proofs.Numbers.{step-short, stepped-refused}
 use Rattle.session.proofs.Calls.{stepped-none, stepped-done}
 use borrow.Author.Needs.{needs}
@@ -9,7 +10,7 @@ use Rattle.session.proofs.Session.step_back.Tie as tie
 returns : tie.Need-returns
 returns c =
     let a = c .before .before .args in
-    sym (stepped-refused (a .self) (a .journal .now) 2 (step-short _ _ (c .if1 .taken)))
+    sym (stepped-refused mode2k (a .self) (a .journal .now) 2 (step-short mode2k _ _ .1 (c .if1 .taken)))
 
 standing-count-requires : tie.Need-standing-count-requires
 standing-count-requires c κs = search needs
@@ -17,7 +18,7 @@ standing-count-requires c κs = search needs
 returns-2 : tie.Need-returns-2
 returns-2 c =
     let a = c .before .before .before .before .args in
-    stepped-none (a .self) (a .journal .now) (c .before .before .if1 .left) (c .before .standing-count .ensures) (c .if2 .taken)
+    stepped-none mode2k (a .self) (a .journal .now) (c .before .before .if1 .left) (c .before .standing-count .ensures) (c .if2 .taken)
 
 sub-left : tie.Need-sub-left
 sub-left c = search needs
@@ -31,7 +32,7 @@ cells-before-requires c κs = search needs
 returns-3 : tie.Need-returns-3
 returns-3 c =
     let a = c .before .before .before .before .before .before .before .args in
-    stepped-done (a .self) (a .journal .now)
+    stepped-done mode2k (a .self) (a .journal .now)
     (c .before .before .before .before .before .if1 .left) (c .before .before .before .before .standing-count .ensures) (c .before .before .before .if2 .left)
     (c .before .held-bits .ensures) (c .cells-before .ensures)
 

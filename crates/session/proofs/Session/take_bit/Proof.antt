@@ -1,4 +1,5 @@
 -- `session::Session::take_bit` meets its contract: it is what the TPS decoder answers. Assumes nothing.
+use Rattle.carriers.specs.Mode.{mode2k}
 use Rattle.session.proofs.Calls.{bit-taken}
 use borrow.Author.Needs.{needs}
 use Rattle.session.proofs.Session.take_bit.Statement.{statement}
@@ -19,7 +20,7 @@ from-decoder-requires c κs = search needs
 returns : tie.Need-returns
 returns c =
     let a = c .before .before .before .before .before .args in
-    bit-taken (a .self) (a .t2) (c .before .before .before .before .decoder .ensures) (c .before .before .feed-symbol .ensures) (c .from-decoder .ensures)
+    bit-taken mode2k (a .self) (a .t2) (c .before .before .before .before .decoder .ensures) (c .before .before .feed-symbol .ensures) (c .from-decoder .ensures)
 
 pub take-bit-spec : {M : Type 1} → statement M
 take-bit-spec =
