@@ -11,7 +11,7 @@ use Rattle.tps.specs.Receive as receive
 use Rattle.tps.proofs.Determined.{unpack-determined, word-determined}
 use Rattle.session.specs.declared.Session.{Session}
 use Rattle.session.specs.Session as session
-use Rattle.session.proofs.Demand.{same-word}
+use Rattle.session.proofs.Determined.{same-word}
 use Rattle.saltkernel.specs.declared.SaltCounted.{SaltCounted}
 use Rattle.saltkernel.specs.declared.words.SaltTpsWord.{SaltTpsWord}
 use Rattle.saltkernel.specs.declared.words.SaltUnpacked.{SaltUnpacked}

@@ -3,6 +3,7 @@
 // 4, and place n of the journal, 34 floats from 34 n on, is the next symbol's. The caller lends one journal for each
 // session, always the same, and writes nothing to it in between.
 ghost use mathlib.Core.Path.{_≡_};
+ghost use Rattle.carriers.specs.Mode.{mode2k};
 ghost use Rattle.session.specs.Session.{fresh, nextPhase, feedAnswer, feedDataLeaves, feedJournalLeaves};
 ghost use Rattle.session.specs.Session.{stepBackAnswer, Words};
 ghost use Rattle.saltkernel.specs.Words.{SaysOneThat};
@@ -31,7 +32,7 @@ pub struct SaltSessionStepped {
 // A session with no symbol standing; its journal may hold anything.
 #[no_mangle]
 pub extern "C" fn salt_session_new() -> Session
-    ensures { λ r. ⌜ r ≡ fresh ⌝ }
+    ensures { λ r. ⌜ r ≡ fresh mode2k ⌝ }
 {
     Session::new()
 }
@@ -39,7 +40,7 @@ pub extern "C" fn salt_session_new() -> Session
 // The session with no symbol standing again.
 #[no_mangle]
 pub extern "C" fn salt_session_reset(session: Session) -> Session
-    ensures { λ r. ⌜ r ≡ fresh ⌝ }
+    ensures { λ r. ⌜ r ≡ fresh mode2k ⌝ }
 {
     session.reset()
 }
@@ -55,12 +56,12 @@ pub extern "C" fn salt_session_feed(
     out: &mut [f32],
     journal: &mut [f32],
 ) -> SaltSessionFed
-    ensures answer { λ r. ⌜ SaysSessionFed r (feedAnswer session (now (symbol .entry)) (now (out .entry))
+    ensures answer { λ r. ⌜ SaysSessionFed r (feedAnswer mode2k session (now (symbol .entry)) (now (out .entry))
         (now (journal .entry))) ⌝ }
     ensures output { λ _. ⌜ now (out .exit)
-        ≡ feedDataLeaves session (now (symbol .entry)) (now (out .entry)) (now (journal .entry)) ⌝ }
+        ≡ feedDataLeaves mode2k session (now (symbol .entry)) (now (out .entry)) (now (journal .entry)) ⌝ }
     ensures journal { λ _. ⌜ now (journal .exit)
-        ≡ feedJournalLeaves session (now (symbol .entry)) (now (out .entry)) (now (journal .entry)) ⌝ }
+        ≡ feedJournalLeaves mode2k session (now (symbol .entry)) (now (out .entry)) (now (journal .entry)) ⌝ }
 {
     let fed = session.feed(symbol, out, journal);
     let answer = fed.answer;
@@ -83,7 +84,7 @@ pub extern "C" fn salt_session_feed(
 // Refusals: 3 OUTPUT SHORT (a journal under 2,312), 7 EMPTY.
 #[no_mangle]
 pub extern "C" fn salt_session_step_back(session: Session, journal: &[f32]) -> SaltSessionStepped
-    ensures { λ r. ⌜ SaysStepped r (stepBackAnswer session (now (journal .entry))) ⌝ }
+    ensures { λ r. ⌜ SaysStepped r (stepBackAnswer mode2k session (now (journal .entry))) ⌝ }
 {
     let stepped = session.step_back(journal);
     let answer = stepped.answer;
