@@ -1,3 +1,4 @@
 pub mod Numbers
 pub mod WordCodes
 pub mod Determined
+pub mod Runs
