@@ -34,7 +34,7 @@ refused-one r q k e f = refused-is r k e ∙ sym (refused-is q k f)
 
 -- ---- unpacking
 
-module _ (b : List ℕ) (hl : length b ≡ 68) (hb : areBits b ≡ true) where
+module _ (b : List ℕ) (hl : length b ≡ SYMBOLS) (hb : areBits b ≡ true) where
   answers-one : (r q : Unpacked) → UnpacksBy zero b r → UnpacksBy zero b q → r ≡ q
   answers-one r q (inl h) (inl k) =
       h .says
@@ -54,25 +54,25 @@ abbrev no : Bool → Bool → ℕ
 no x y = cond (not x) LENGTH (cond (not y) NOT-A-BIT ACCEPTED)
 
 module _ (b : List ℕ) where
-  determined-by : (r q : Unpacked) (x y : Bool) → eqb (length b) 68 ≡ x → areBits b ≡ y → UnpacksBy (no x y) b r → UnpacksBy (no x y) b q → r ≡ q
-  determined-by r q true true ex ey h k = answers-one b (eqb-true (length b) 68 ex) ey r q h k
+  determined-by : (r q : Unpacked) (x y : Bool) → eqb (length b) SYMBOLS ≡ x → areBits b ≡ y → UnpacksBy (no x y) b r → UnpacksBy (no x y) b q → r ≡ q
+  determined-by r q true true ex ey h k = answers-one b (eqb-true (length b) SYMBOLS ex) ey r q h k
   determined-by r q true false ex ey h k = refused-one r q 1 h k
   determined-by r q false y ex ey h k = refused-one r q 0 h k
 
   -- two answers to the same bits, each as unpacking promises, are equal
   pub unpack-determined : (r q : Unpacked) → Unpacks b r → Unpacks b q → r ≡ q
-  unpack-determined r q h k = determined-by r q (eqb (length b) 68) (areBits b) refl refl h k
+  unpack-determined r q h k = determined-by r q (eqb (length b) SYMBOLS) (areBits b) refl refl h k
 
-  unpacks-by : (x y : Bool) → eqb (length b) 68 ≡ x → areBits b ≡ y
+  unpacks-by : (x y : Bool) → eqb (length b) SYMBOLS ≡ x → areBits b ≡ y
       → UnpacksBy (no x y) b (kept (no x y) (nearAnswer (nearOf (drop 1 b))) (Refused (no x y)))
-  unpacks-by true true ex ey = near-unpacks b (eqb-true (length b) 68 ex) ey (nearOf (drop 1 b)) refl
+  unpacks-by true true ex ey = near-unpacks b (eqb-true (length b) SYMBOLS ex) ey (nearOf (drop 1 b)) refl
   unpacks-by true false ex ey = refl
   unpacks-by false y ex ey = refl
 
   -- every input has an answer
   pub unpack-answers : Unpacks b (unpackAnswer b)
   unfolding unpackAnswer
-  unpack-answers = unpacks-by (eqb (length b) 68) (areBits b) refl refl
+  unpack-answers = unpacks-by (eqb (length b) SYMBOLS) (areBits b) refl refl
 
   -- and it is the only one
   pub unpack-is : (r : Unpacked) → Unpacks b r → r ≡ unpackAnswer b
@@ -87,7 +87,7 @@ module _ (d : TpsDecoder) where
 
   -- two answers of one receiver to a call for the word are equal
   pub word-determined : (r q : Unpacked) → Words d r → Words d q → r ≡ q
-  word-determined r q h k = word-determined-by r q (ltb (d .count) 68) h k
+  word-determined r q h k = word-determined-by r q (ltb (d .count) SYMBOLS) h k
 
   words-by : (x : Bool) (n : ℕ) → cond x INCOMPLETE ACCEPTED ≡ n → WordsBy n d (kept n (unpackAnswer (map (min 1) (d .bits))) (Refused n))
   words-by true n e = rw (sym e) refl
@@ -96,7 +96,7 @@ module _ (d : TpsDecoder) where
   -- every receiver has one, and it is the only one
   pub word-answers : Words d (wordAnswer d)
   unfolding wordAnswer
-  word-answers = words-by (ltb (d .count) 68) _ refl
+  word-answers = words-by (ltb (d .count) SYMBOLS) _ refl
 
   pub word-is : (r : Unpacked) → Words d r → r ≡ wordAnswer d
   word-is r h = word-determined r (wordAnswer d) h word-answers

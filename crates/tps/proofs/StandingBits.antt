@@ -34,14 +34,14 @@ held-are-bits [] = tt
 held-are-bits (b ∷ bs) = (omega arith, held-are-bits bs)
 
 -- one bit more is held
-pub standing-bit-next : (bits : List ℕ) (i : ℕ) → length bits ≡ 68 → i < 68 → set (heldBits i bits) i (min 1 (getD bits i 0)) ≡ heldBits (i + 1) bits
+pub standing-bit-next : (bits : List ℕ) (i : ℕ) → length bits ≡ SYMBOLS → i < SYMBOLS → set (heldBits i bits) i (min 1 (getD bits i 0)) ≡ heldBits (i + 1) bits
 unfolding heldBits
 standing-bit-next bits i z h =
     let k : length (map (min 1) (take i bits)) ≡ i = simp (length-map, length-take) (omega arith) in
-    let e : 68 - i ≡ suc (68 - (i + 1)) = omega arith in
+    let e : SYMBOLS - i ≡ suc (SYMBOLS - (i + 1)) = omega arith in
     let l : i < length bits = omega arith in
     let first = map (min 1) (take i bits) in
-    let rest = replicate {A = ℕ} (68 - suc i) 0 in
+    let rest = replicate {A = ℕ} (SYMBOLS - suc i) 0 in
     rw (e, add-one i, take-suc bits i 0 l, map-append)
     (set-at first 0 rest (min 1 (getD bits i 0)) i k ∙ sym (append-snoc first (min 1 (getD bits i 0)) rest))
 
@@ -78,9 +78,9 @@ held-next bits n v z h e =
     ∙ ap₂ (λ (x : List ℕ) (w : ℕ). set x n w) (held-before bits n z (omega arith) v)
     (ap (min 1) (getD-set-same (heldBits n bits) n v 0 (omega (arith, k))) ∙ e)
 
-pub all-bits-stand : (bits : List ℕ) → length bits ≡ 68 → heldBits 68 bits ≡ map (min 1) bits
+pub all-bits-stand : (bits : List ℕ) → length bits ≡ SYMBOLS → heldBits SYMBOLS bits ≡ map (min 1) bits
 unfolding heldBits
-all-bits-stand bits z = append-nil (map (min 1) (take 68 bits)) ∙ ap (map (min 1)) (take-all 68 bits (omega arith))
+all-bits-stand bits z = append-nil (map (min 1) (take SYMBOLS bits)) ∙ ap (map (min 1)) (take-all SYMBOLS bits (omega arith))
 
 -- ---- a call for the bits, where n symbols stand
 
@@ -89,7 +89,7 @@ module _ (d : TpsDecoder) (o : List ℕ) (n : ℕ) (e : n ≡ standing d) where
   bits-refused h = fill-refused (standing d) (receivedBits d) o (omega arith)
 
   -- the front of the output came back as the first n of the held bits
-  pub bits-written : n ≤ length o → (held t : List ℕ) → length held ≡ 68 → held ≡ map (min 1) (d .bits) → t ≡ take n held
+  pub bits-written : n ≤ length o → (held t : List ℕ) → length held ≡ SYMBOLS → held ≡ map (min 1) (d .bits) → t ≡ take n held
       → (counts.Count n ≡ bitsAnswer d o) × (t ++ drop n o ≡ bitsLeaves d o)
   bits-written h held t l eh et =
       let r = fill-accepted (standing d) (receivedBits d) o (omega arith) in
@@ -104,15 +104,15 @@ module _ (d : TpsDecoder) where
   word-by : (n : ℕ) (r : Unpacked) → wordNo d ≡ n → WordsBy n d r → Words d r
   word-by n r e h = subst (λ (k : ℕ). WordsBy k d r) (sym e) h
 
-  pub word-incomplete : d .count < 68 → Words d (Refused INCOMPLETE)
-  word-incomplete h = word-by INCOMPLETE (Refused INCOMPLETE) (simp (lt-ltb (d .count) 68 h) refl) refl
+  pub word-incomplete : d .count < SYMBOLS → Words d (Refused INCOMPLETE)
+  word-incomplete h = word-by INCOMPLETE (Refused INCOMPLETE) (simp (lt-ltb (d .count) SYMBOLS h) refl) refl
 
-  word-accepted : 68 ≤ d .count → wordNo d ≡ ACCEPTED
-  word-accepted h = simp (le-ltb (d .count) 68 h) refl
+  word-accepted : SYMBOLS ≤ d .count → wordNo d ≡ ACCEPTED
+  word-accepted h = simp (le-ltb (d .count) SYMBOLS h) refl
 
-  pub word-unpacks : 68 ≤ d .count → (r : Unpacked) (held : List ℕ) → held ≡ map (min 1) (d .bits) → Unpacks held r → Words d r
+  pub word-unpacks : SYMBOLS ≤ d .count → (r : Unpacked) (held : List ℕ) → held ≡ map (min 1) (d .bits) → Unpacks held r → Words d r
   word-unpacks h r held e u = word-by ACCEPTED r (word-accepted h) (subst (λ (l : List ℕ). Unpacks l r) e u)
 
   -- and the other way round
-  pub word-unpacked : d .count ≡ 68 → (r : Unpacked) → Words d r → Unpacks (map (min 1) (d .bits)) r
+  pub word-unpacked : d .count ≡ SYMBOLS → (r : Unpacked) → Words d r → Unpacks (map (min 1) (d .bits)) r
   word-unpacked e r w = subst (λ (k : ℕ). WordsBy k d r) (word-accepted (omega (arith, e))) w
