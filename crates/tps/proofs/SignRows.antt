@@ -14,8 +14,9 @@ use Rattle.ground.specs.declared.Cell.{Cell}
 use Rattle.ground.specs.Cells.{plusZero}
 use Rattle.ground.proofs.Xor.{bit-cases}
 use Rattle.ground.proofs.Mapped.{map-at}
-use Rattle.carriers.specs.Mode.{Mode, mode2k, tps2k}
+use Rattle.carriers.specs.Mode.{Mode, mode2k}
 use Rattle.carriers.specs.Sequence.{wk}
+use Rattle.carriers.proofs.Facts.{Facts, facts2k}
 use Rattle.tps.specs.Send.{signOf, startSigns, signCell}
 use Rattle.tps.specs.Receive.{noCell, product, correlation}
 use Rattle.tps.proofs.Sums.{one, Total, total-next, total-below}
@@ -58,19 +59,18 @@ all-of (a ∷ l) = (sign-of (wk a), all-of l)
 
 -- ---- the rows of a mode
 
--- what is asked of a mode: the list of its TPS carriers is as long as it says, and so far a sum of ones is exact
+-- what is asked of a mode beside its facts: it has TPS carriers, and so far a sum of ones is exact
 pub record TpsFacts (m : Mode) : Type 0 where
-  pub many : length (m .tps) ≡ m .tpsCount
+  pub facts : Facts m
   pub some : 0 < m .tpsCount
   pub exact : m .tpsCount ≤ 2 ^ 24
 
 pub tps-facts2k : TpsFacts mode2k
-unfolding tps2k
-tps-facts2k = record { many = refl; some = omega arith; exact = omega arith }
+tps-facts2k = record { facts = facts2k; some = omega arith; exact = omega arith }
 
 pub start-signs : (m : Mode) → TpsFacts m → Signs (m .tpsCount) (startSigns m)
 unfolding startSigns
-start-signs m f = (length-map (m .tps) (λ a. signOf (wk a)) ∙ f .many, all-of (m .tps))
+start-signs m f = (length-map (m .tps) (λ a. signOf (wk a)) ∙ f .facts .tps-many, all-of (m .tps))
 
 -- ---- the bit that is read of the signs s behind the signs p
 
