@@ -26,7 +26,6 @@
 #ifndef SALTKERNEL_H
 #define SALTKERNEL_H
 
-#include <stdbool.h>
 #include <stddef.h>
 #include <stdint.h>
 
