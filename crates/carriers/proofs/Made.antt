@@ -1,10 +1,10 @@
 -- A rising list that is made of three lists, as a test in one walk along the four: it has their members, and the three rise as it does. Assumes nothing.
 use mathlib.Core.Path.{_≡_, refl, sym, ap, ap₂, _∙_}
-use mathlib.Core.Bool.{Bool, true, false, _&&_, _||_}
+use mathlib.Core.Bool.{Bool, true, false, _&&_, _||_, cond}
 use mathlib.Core.List.{List, [], _∷_}
-use Prim.Native.Nat.{ℕ, suc, _≤_}
+use Prim.Native.Nat.{ℕ, zero, suc, _≤_}
 use native.Mathlib.Omega.{arith}
-use lib.Dec.{eqb, leb}
+use lib.Dec.{eqb, ltb, leb}
 use borrow.Author.Tests.{eqb-true, leb-true}
 use Rattle.carriers.specs.Carriers.{among}
 use Rattle.carriers.specs.Reserved.{Rises, heads, past}
@@ -23,6 +23,24 @@ none (r ∷ l) = false
 unfoldable pub made : List ℕ → List ℕ → List ℕ → List ℕ → Bool
 made [] x y z = none x && (none y && none z)
 made (r ∷ l) x y z = (heads x r || (heads y r || heads z r)) && made l (past x (heads x r)) (past y (heads y r)) (past z (heads z r))
+
+-- ---- a list to be tested: nothing more is asked of it
+
+-- the least of the next members of three lists
+abbrev pub next : List ℕ → ℕ → ℕ
+next [] b = b
+next (r ∷ l) b = cond (ltb r b) r b
+
+abbrev pub least : List ℕ → List ℕ → List ℕ → ℕ
+least x y z = next x (next y (next z 65536))
+
+-- n members of three lists, r first
+unfoldable pub join : ℕ → ℕ → List ℕ → List ℕ → List ℕ → List ℕ
+join zero r x y z = []
+join (suc n) r x y z =
+    r ∷ join n (least (past x (heads x r)) (past y (heads y r)) (past z (heads z r))) (past x (heads x r)) (past y (heads y r)) (past z (heads z r))
+
+-- ---- the tests hold
 
 never : {P : Type 0} → _≡_ {A = Bool} false true → P
 never e = absurd (let z : _≡_ {A = ℕ} 0 1 = cc in omega arith)
