@@ -22,9 +22,14 @@ fn put_fed(phase: usize, answer: TpsBit, standing: usize, room: &mut [u8; 16384]
 }
 
 // The session after the symbol of a number.
-fn fed(session: Session, number: u8, journal: &mut [f32; 2312], room: &mut [u8; 16384]) -> Session {
+fn fed(
+    session: Session,
+    number: u8,
+    journal: &mut [f32; session::JOURNAL_FLOATS],
+    room: &mut [u8; 16384],
+) -> Session {
     let symbol = symbols::symbol_of(number);
-    let mut data = [0.5f32; 3024];
+    let mut data = [0.5f32; carriers::DATA_FLOATS];
     let fed = session.feed(&symbol, &mut data, journal);
     let answer = fed.answer;
     let after = fed.session;
@@ -37,7 +42,7 @@ fn fed(session: Session, number: u8, journal: &mut [f32; 2312], room: &mut [u8; 
 fn called(
     session: Session,
     call: u8,
-    journal: &mut [f32; 2312],
+    journal: &mut [f32; session::JOURNAL_FLOATS],
     room: &mut [u8; 16384],
 ) -> Session {
     if call == 255 {
@@ -58,7 +63,7 @@ fn put_bits(bits: [u8; 68], room: &mut [u8; 16384]) -> Counted {
 
 // Session.
 pub(crate) fn session(script: &[u8], room: &mut [u8; 16384]) -> Counted {
-    let mut journal = [0.5f32; 2312];
+    let mut journal = [0.5f32; session::JOURNAL_FLOATS];
     let mut session = Session::new();
     let mut i = 0;
     while i < script.len() {

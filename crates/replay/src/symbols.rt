@@ -15,10 +15,10 @@ fn ruled(symbol: u8, place: u16) -> f32 {
 }
 
 // A symbol by the rule.
-pub(crate) fn symbol_of(number: u8) -> [f32; 4096] {
-    let mut symbol = [0.0f32; 4096];
+pub(crate) fn symbol_of(number: u8) -> [f32; carriers::SYMBOL_FLOATS] {
+    let mut symbol = [0.0f32; carriers::SYMBOL_FLOATS];
     let mut i = 0;
-    while i < 4096 {
+    while i < carriers::SYMBOL_FLOATS {
         symbol[i] = ruled(number, i as u16);
         i += 1;
     }
@@ -28,7 +28,7 @@ pub(crate) fn symbol_of(number: u8) -> [f32; 4096] {
 // ScatteredPilotExtractor: the data of symbol p in phase p.
 pub(crate) fn extract(phase: usize, room: &mut [u8; 16384]) -> Counted {
     let symbol = symbol_of((phase % 256) as u8);
-    let mut data = [0.5f32; 3024];
+    let mut data = [0.5f32; carriers::DATA_FLOATS];
     ScatteredPilotExtractor { phase }.extract_symbol(&symbol, &mut data);
     floats::put(&data, 0, room)
 }
@@ -36,7 +36,7 @@ pub(crate) fn extract(phase: usize, room: &mut [u8; 16384]) -> Counted {
 // ScatteredPilotMapper: the symbol of a phase with the first floats of symbol 0 as its data.
 pub(crate) fn map(phase: usize, room: &mut [u8; 16384]) -> Counted {
     let data = symbol_of(0);
-    let mut symbol = [0.5f32; 4096];
+    let mut symbol = [0.5f32; carriers::SYMBOL_FLOATS];
     ScatteredPilotMapper { phase }.map_symbol(&data, &mut symbol);
     floats::put(&symbol, 0, room)
 }
