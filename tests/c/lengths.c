@@ -201,7 +201,25 @@ static void all_empty(const Function *function) {
     with_lengths(function, lengths, owed);
 }
 
+/* The lengths that a failed read hands on, as if they were a slice's: wherever the call can refuse, it does, and reads and writes nothing. */
+static void failed_read(size_t length) {
+    uint8_t in[1] = {0}, out[60] = {0};
+    CHECK(salt_ts_packetize(in, length, out, sizeof out).number == SALT_OUTPUT_SHORT);
+    CHECK(salt_ts_depacketize(in, length, out, sizeof out).number == SALT_LENGTH);
+    CHECK(salt_ts_energy_disperse(out, length).number == SALT_LENGTH);
+    CHECK(salt_ts_stuff_null_packets(out, sizeof out, length, 0).number == SALT_LENGTH);
+    CHECK(salt_dvb_t_energy_dispersal_feed(salt_dvb_t_energy_dispersal_new(), in, length, out, sizeof out).answer.number == SALT_OUTPUT_SHORT);
+    CHECK(salt_dvb_t_map_symbol(in, length).number == SALT_LENGTH);
+    CHECK(salt_tps_bch_encode(in, length, out, sizeof out).number == SALT_LENGTH);
+    CHECK(salt_tps_bch_decode(in, length, out, sizeof out).number == SALT_LENGTH);
+    CHECK(salt_tps_word_unpack(in, length).number == SALT_LENGTH);
+    CHECK(salt_read_line(in, length).number == SALT_BAD_LINE);
+    CHECK(salt_reader_feed(salt_reader_new(), in, length, out, sizeof out).answer.number == SALT_OUTPUT_SHORT);
+}
+
 void test_lengths(void) {
+    failed_read(SIZE_MAX);
+    failed_read(SIZE_MAX - 185);
     for (size_t f = 0; f < sizeof functions / sizeof functions[0]; f++) {
         for (size_t i = 0; i < MOST_SLICES && functions[f].slices[i].exact != 0; i++) {
             one_varied(&functions[f], i);
