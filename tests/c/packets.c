@@ -43,6 +43,9 @@ static void stuffing(void) {
     CHECK(salt_ts_stuff_null_packets(at, ts.length, 5 * SALT_PACKET_BYTES, 9).number == SALT_LENGTH);
     CHECK(salt_ts_stuff_null_packets(at, ts.length, 0, 5).number == SALT_OUTPUT_SHORT);
     CHECK(salt_ts_stuff_null_packets(at, ts.length, 0, SIZE_MAX).number == SALT_OUTPUT_SHORT);
+    CHECK(salt_ts_stuff_null_packets(at, ts.length, 1, 0).number == SALT_LENGTH);
+    CHECK(salt_ts_stuff_null_packets(at, 0, SALT_PACKET_BYTES, 0).number == SALT_LENGTH);
+    CHECK(salt_ts_stuff_null_packets(at, 0, 0, 1).number == SALT_OUTPUT_SHORT);
     CHECK(salt_ts_stuff_null_packets(at, ts.length, 0, SIZE_MAX / 4 + 1).number == SALT_OUTPUT_SHORT); /* its bytes are 0 modulo 2^64 */
     give_back(&ts);
 }
