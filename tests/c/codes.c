@@ -1,6 +1,7 @@
 /* The code of the TPS words. */
 #include "check.h"
 
+#include <stdio.h>
 #include <string.h>
 
 /* Every codeword with no, one or two wrong bits is read as it was. */
@@ -20,6 +21,26 @@ static void mended(const uint8_t *info, uint8_t *code) {
     CHECK(salt_tps_bch_decode(code, SALT_TPS_CODEWORD_BITS, back, sizeof back).number == SALT_ACCEPTED && memcmp(back, info, sizeof back) == 0);
 }
 
+/* Three wrong bits: of all 47,905 patterns, how many are read as another codeword and how many are refused. */
+static void count_three_wrong(uint8_t *code) {
+    unsigned long read = 0, refused = 0, own = 0;
+    for (size_t i = 0; i < SALT_TPS_CODEWORD_BITS; i++) {
+        for (size_t j = i + 1; j < SALT_TPS_CODEWORD_BITS; j++) {
+            for (size_t k = j + 1; k < SALT_TPS_CODEWORD_BITS; k++) {
+                uint8_t back[SALT_TPS_INFORMATION_BITS];
+                code[i] ^= 1, code[j] ^= 1, code[k] ^= 1;
+                uint8_t number = salt_tps_bch_decode(code, SALT_TPS_CODEWORD_BITS, back, sizeof back).number;
+                code[i] ^= 1, code[j] ^= 1, code[k] ^= 1;
+                *(number == SALT_ACCEPTED ? &read : &refused) += 1;
+                own += number == SALT_ACCEPTED && memcmp(back, code, sizeof back) == 0;
+                CHECK(number == SALT_ACCEPTED || number == SALT_NO_WORD);
+            }
+        }
+    }
+    CHECK(read == 6480 && refused == 41425 && own == 0);
+    printf("three wrong bits: %lu patterns are read as another codeword, %lu are refused\n", read, refused);
+}
+
 /* The parity of a codeword as a number. */
 static unsigned parity(const uint8_t *code) {
     unsigned number = 0;
@@ -32,6 +53,7 @@ static unsigned parity(const uint8_t *code) {
 void test_codes(void) {
     uint8_t info[SALT_TPS_INFORMATION_BITS] = {0}, code[SALT_TPS_CODEWORD_BITS], none[SALT_TPS_CODEWORD_BITS] = {0};
     CHECK(salt_tps_bch_encode(info, sizeof info, code, sizeof code).count == sizeof code && parity(code) == 0);
+    count_three_wrong(code);
     info[52] = 1;
     CHECK(salt_tps_bch_encode(info, sizeof info, code, sizeof code).count == sizeof code && parity(code) == 0x0377);
     CHECK(memcmp(code, info, sizeof info) == 0);
@@ -40,6 +62,7 @@ void test_codes(void) {
     }
     CHECK(salt_tps_bch_encode(info, sizeof info, code, sizeof code).number == SALT_ACCEPTED);
     mended(info, code);
+    count_three_wrong(code);
 
     none[66 - 7] = none[66 - 3] = none[66] = 1;
     SaltCounted refused = salt_tps_bch_decode(none, sizeof none, info, sizeof info);

@@ -26,3 +26,4 @@ pub mod Answer
 pub mod Determined
 pub mod Exactly
 pub mod Facts
+pub mod ThreeWrong
