@@ -10,9 +10,9 @@
  * said at its function.
  *
  * Every function is defined for all values and all lengths. A call that can't be done is refused: its answer has the
- * refusal's number, every other part of the answer is 0 or the state as it went in, and every slice is unchanged.
- * Number 0 is accepted. Of several refusals that apply the first is given, in the order in which each function names
- * them.
+ * refusal's number, every other part of the answer is 0, SALT_NO_PLACE or the state as it went in, and every slice is
+ * unchanged. Number 0 is accepted. Of several refusals that apply the first is given, in the order in which each
+ * function names them.
  *
  * State is passed and returned by value, or lent to salt_tps_decoder_feed_in_place; no function keeps any, so calls
  * may be made from any thread. What a state's fields hold is no secret: a state that is copied is a second one, and a
@@ -75,11 +75,12 @@ enum {
 
 #define SALT_TPS_INFORMATION_BITS 53 /* the information bits of a TPS codeword */
 #define SALT_TPS_CODEWORD_BITS 67    /* the bits of a TPS codeword */
+#define SALT_NO_PLACE 255            /* a place of a codeword that stands for none */
 #define SALT_TPS_WORD_BITS 68        /* a zero bit s0 and the codeword; the symbols of a frame are as many */
 #define SALT_JOURNAL_FLOATS 2312     /* a session's journal: the TPS cells of 68 symbols */
 
 #define SALT_LINE_DIGITS 17   /* a line of the report's input: the 68 bits of a word, four a digit */
-#define SALT_HEADING_BYTES 34 /* the report's heading */
+#define SALT_HEADING_BYTES 41 /* the report's heading */
 #define SALT_LINE_ROOM 60     /* room for every line of the report */
 #define SALT_CLOSE_ROOM 120   /* room for the report's end */
 
@@ -392,6 +393,15 @@ SaltCounted salt_grid_extract(const float *symbol, size_t symbol_length, float *
 
 /* ---- The code of the TPS words (4.6.2.11) */
 
+/* A count of information bits and the bits that were changed, or a refusal's number, the counts 0 and no place. */
+typedef struct SaltDecoded {
+    uint8_t number;
+    size_t count;
+    size_t mended; /* how many of the 67 bits were changed, 0 to 2 */
+    size_t first;  /* their places, 0 to 66 and rising, or SALT_NO_PLACE */
+    size_t second;
+} SaltDecoded;
+
 /*
  * The codeword of 53 information bits: these, then 14 bits of parity. Answers 67.
  * Refusals: 1 LENGTH (not 53), 2 NOT A BIT, 3 OUTPUT SHORT.
@@ -399,10 +409,10 @@ SaltCounted salt_grid_extract(const float *symbol, size_t symbol_length, float *
 SaltCounted salt_tps_bch_encode(const uint8_t *info, size_t info_length, uint8_t *out, size_t out_length);
 
 /*
- * The 53 information bits of the codeword within distance two of 67 bits. Answers 53.
+ * The 53 information bits of the codeword within distance two of 67 bits. Answers 53, and the bits that were changed.
  * Refusals: 1 LENGTH (not 67), 2 NOT A BIT, 3 OUTPUT SHORT, 4 NO WORD.
  */
-SaltCounted salt_tps_bch_decode(const uint8_t *code, size_t code_length, uint8_t *out, size_t out_length);
+SaltDecoded salt_tps_bch_decode(const uint8_t *code, size_t code_length, uint8_t *out, size_t out_length);
 
 /* ---- The TPS word (4.6.2) */
 
@@ -415,10 +425,13 @@ typedef struct SaltTpsWord {
     uint8_t cell_id;
 } SaltTpsWord;
 
-/* A word, or a refusal's number and zeros. */
+/* A word and the bits that were changed to read it, or a refusal's number, zeros and no place. */
 typedef struct SaltUnpacked {
     uint8_t number;
     SaltTpsWord word;
+    size_t mended; /* how many of s1 to s67 were changed, 0 to 2 */
+    size_t first;  /* their places, rising, from 0 for s1 to 66 for s67, or SALT_NO_PLACE */
+    size_t second;
 } SaltUnpacked;
 
 /*
@@ -616,14 +629,14 @@ typedef struct SaltReaderFed {
 SaltUnpacked salt_read_line(const uint8_t *line, size_t line_length);
 
 /*
- * Writes the heading, `line frame points rate guard cell` and a newline. Answers 34.
+ * Writes the heading, `line frame points rate guard cell mended` and a newline. Answers 41.
  * Refusals: 3 OUTPUT SHORT.
  */
 SaltCounted salt_put_heading(uint8_t *out, size_t out_length);
 
 /*
  * Writes the report's line for a line's number and its answer: a word where the answer's number is 0, else that
- * refusal. Answers the bytes written.
+ * refusal. A count of mended bits above 2 is written as 2, and their places aren't written. Answers the bytes written.
  * Refusals: 3 OUTPUT SHORT (room for fewer than 60), 5 RESERVED (a word whose constellation is above 2, rate above 4
  * or guard above 3).
  */
@@ -656,9 +669,9 @@ SaltCounted salt_reader_close(SaltReader reader, uint8_t *out, size_t out_length
  */
 
 /* The number of the layout. */
-uint32_t salt_layout_d8a5efea(void);
+uint32_t salt_layout_a03db9ee(void);
 
-#define SALT_LAYOUT salt_layout_d8a5efea
+#define SALT_LAYOUT salt_layout_a03db9ee
 
 #ifdef __cplusplus
 }

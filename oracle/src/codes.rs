@@ -1,11 +1,12 @@
-//! The code of the TPS words: tps_bch_encode and tps_bch_decode of orion-sdr's dvb_t_tps.rs.
+//! The code of the TPS words: tps_bch_encode and tps_bch_decode of orion-sdr's dvb_t_tps.rs. Which bits are mended orion-sdr doesn't tell; mended.rs does.
 
 use crate::answer::{Answer, shown};
 use crate::harness::{Expected, Run, Subject};
 use crate::lent::{EMPTY, Lent, Room, UNTOUCHED, background, surroundings};
+use crate::mended::{Mended, mended};
 use crate::random::Random;
 use crate::refusals::{LENGTH, NO_WORD, NOT_A_BIT, OUTPUT_SHORT};
-use crate::sys::SaltCounted;
+use crate::sys::SaltDecoded;
 use crate::{call, shrink};
 use orion_sdr::waveform::dvb_t_tps as orion;
 
@@ -18,7 +19,7 @@ const WORDS: usize = 1_000_000;
 /// Each remainder is tried with so many informations.
 const INFORMATIONS: usize = 4;
 /// So many codewords have all the words near them decoded.
-const CODEWORDS: usize = 40;
+const CODEWORDS: usize = 1000;
 
 /// Compares all functions of this module.
 pub fn compare(run: &mut Run) {
@@ -26,8 +27,22 @@ pub fn compare(run: &mut Run) {
     run.compare("tps_bch_decode", Decode);
 }
 
-/// A function of the port that reads bits and writes bits.
-type Call = fn(&[u8], &mut [u8]) -> SaltCounted;
+/// A function of the port that reads bits and writes bits; encoding mends none.
+type Call = fn(&[u8], &mut [u8]) -> SaltDecoded;
+
+/// What is written, and the bits that are mended for it.
+type Written<const N: usize> = ([u8; N], Mended);
+
+/// An answer of a call.
+fn answer(number: u8, count: usize, Mended { count: mended, first, second }: Mended) -> SaltDecoded {
+    SaltDecoded { number, count, mended, first, second }
+}
+
+/// An answer with a count of mended bits and their places more.
+pub fn with_mended(answer: Answer, name: &str, Mended { count, first, second }: Mended) -> Answer {
+    let answer = answer.number(&format!("{name}bits mended"), count as u64);
+    answer.number(&format!("{name}first place"), first as u64).number(&format!("{name}second place"), second as u64)
+}
 
 /// Input bits and the size of a lent output.
 struct Coding {
@@ -47,16 +62,21 @@ impl Coding {
         let mut out = Lent::to_write("output", &self.output(needed));
         let answer = call(input.slice(), out.slice_mut());
         let found = surroundings(&mut [&mut input, &mut out]);
-        Answer::counted(answer.number, answer.count).bytes("output", out.slice()).surroundings(&found)
+        Self::answer(answer).bytes("output", out.slice()).surroundings(&found)
     }
 
-    /// What is owed for a refusal: the number, and the output as it was.
+    /// What a call answers, as it is compared.
+    fn answer(SaltDecoded { number, count, mended, first, second }: SaltDecoded) -> Answer {
+        with_mended(Answer::counted(number, count), "", Mended { count: mended, first, second })
+    }
+
+    /// What is owed for a refusal: the number, no bit mended, and the output as it was.
     fn refused(&self, needed: usize, number: u8) -> Answer {
-        Answer::counted(number, 0).bytes("output", &self.output(needed)).surroundings(UNTOUCHED)
+        Self::answer(answer(number, 0, Mended::NONE)).bytes("output", &self.output(needed)).surroundings(UNTOUCHED)
     }
 
     /// What is owed for bits of the right number: document 01's NOT A BIT and then OUTPUT SHORT, else orion-sdr's answer, whose None is NO WORD.
-    fn owed<const N: usize>(&self, orion: impl FnOnce(&[u8]) -> Option<[u8; N]>) -> Expected {
+    fn owed<const N: usize>(&self, orion: impl FnOnce(&[u8]) -> Option<Written<N>>) -> Expected {
         let mut out = self.output(N);
         if self.bits.iter().any(|bit| *bit > 1) {
             return Expected::document(self.refused(N, NOT_A_BIT));
@@ -64,11 +84,11 @@ impl Coding {
         if out.len() < N {
             return Expected::document(self.refused(N, OUTPUT_SHORT));
         }
-        let Some(written) = orion(&self.bits) else {
+        let Some((written, mended)) = orion(&self.bits) else {
             return Expected::orion(self.refused(N, NO_WORD));
         };
         out[..N].copy_from_slice(&written);
-        Expected::orion(Answer::counted(0, N).bytes("output", &out).surroundings(UNTOUCHED))
+        Expected::orion(Self::answer(answer(0, N, mended)).bytes("output", &out).surroundings(UNTOUCHED))
     }
 
     /// A room nearer to the exact one, fewer bits, or more zeros.
@@ -90,16 +110,21 @@ const INPUT: usize = 8;
 /// Where the output begins in it.
 const OUTPUT: usize = 84;
 
-/// Whether the port writes what is owed (None for NO WORD), and all other memory is as it was.
-fn same<const N: usize>(bits: &[u8], owed: Option<[u8; N]>, call: Call) -> bool {
+/// Whether the port answers and writes what is owed (None for NO WORD), and all other memory is as it was.
+fn same<const N: usize>(bits: &[u8], owed: Option<Written<N>>, call: Call) -> bool {
     let mut memory = BULK;
     memory[INPUT..INPUT + bits.len()].copy_from_slice(bits);
     let mut after = memory;
-    let (number, count) = if owed.is_some() { (0, N) } else { (NO_WORD, 0) };
-    after[OUTPUT..OUTPUT + count].copy_from_slice(&owed.unwrap_or([0; N])[..count]);
+    let owed = match owed {
+        Some((written, mended)) => {
+            after[OUTPUT..OUTPUT + N].copy_from_slice(&written);
+            answer(0, N, mended)
+        }
+        None => answer(NO_WORD, 0, Mended::NONE),
+    };
     let (before, behind) = memory.split_at_mut(OUTPUT);
-    let answer = call(&before[INPUT..INPUT + bits.len()], &mut behind[..N]);
-    answer.number == number && answer.count == count && *std::hint::black_box(&mut memory) == after
+    let ours = call(&before[INPUT..INPUT + bits.len()], &mut behind[..N]);
+    ours == owed && *std::hint::black_box(&mut memory) == after
 }
 
 /// Hands over bits with every kind of room.
@@ -174,6 +199,17 @@ fn codeword(random: &mut Random) -> [u8; CODEWORD] {
 struct Encode;
 
 impl Encode {
+    /// The port's encoding.
+    fn ours(info: &[u8], out: &mut [u8]) -> SaltDecoded {
+        let counted = call::tps_bch_encode(info, out);
+        answer(counted.number, counted.count, Mended::NONE)
+    }
+
+    /// orion-sdr's encoding.
+    fn theirs(info: &[u8]) -> Option<Written<CODEWORD>> {
+        Some((orion::tps_bch_encode(info), Mended::NONE))
+    }
+
     /// Hands over the informations with at most two ones or at most two zeros, and random ones.
     fn each_information(random: &mut Random, mut see: impl FnMut([u8; INFORMATION])) {
         for places in up_to_two(INFORMATION) {
@@ -203,7 +239,7 @@ impl Subject for Encode {
         let mut compared = 0;
         Self::each_information(random, |info| {
             compared += 1;
-            if !same(&info, Some(orion::tps_bch_encode(&info)), call::tps_bch_encode) {
+            if !same(&info, Self::theirs(&info), Self::ours) {
                 differs(Coding { bits: info.to_vec(), room: Room::Exact });
             }
         });
@@ -211,7 +247,7 @@ impl Subject for Encode {
     }
 
     fn ours(&self, case: &Coding) -> Answer {
-        case.ours(CODEWORD, call::tps_bch_encode)
+        case.ours(CODEWORD, Self::ours)
     }
 
     /// orion-sdr panics on any other length than 53 and passes items above 1 on; it isn't called for either.
@@ -219,7 +255,7 @@ impl Subject for Encode {
         if case.bits.len() != INFORMATION {
             return Expected::document(case.refused(CODEWORD, LENGTH));
         }
-        case.owed(|bits| Some(orion::tps_bch_encode(bits)))
+        case.owed(Self::theirs)
     }
 
     fn smaller<'a>(&'a self, case: &'a Coding) -> Box<dyn Iterator<Item = Coding> + 'a> {
@@ -246,13 +282,21 @@ pub fn with_fewer_ones(word: &[u8]) -> Vec<Vec<u8>> {
 struct Decode;
 
 impl Decode {
+    /// orion-sdr's decoding, and the bits that the search finds, which are those where the word and orion-sdr's codeword of that information differ.
+    fn theirs(word: &[u8]) -> Option<Written<INFORMATION>> {
+        let (info, mended) = (orion::tps_bch_decode(word), mended(word));
+        let differing = info.map(|info| Mended::differing(&orion::tps_bch_encode(&info), word));
+        assert_eq!(differing, mended, "the bits that orion-sdr mends, and the search, in {}", shown(word));
+        info.zip(mended)
+    }
+
     /// Hands over words with every remainder, all words near some codewords, and words with three to six wrong bits.
     fn each_word(random: &mut Random, mut see: impl FnMut([u8; CODEWORD])) {
         for remainder in (0..INFORMATIONS).flat_map(|_| 0..1 << (CODEWORD - INFORMATION)) {
             see(turned(codeword(random), remainder << INFORMATION));
         }
         let extremes = [[0; INFORMATION], [1; INFORMATION]].map(|info| orion::tps_bch_encode(&info));
-        let codewords: Vec<_> = (0..CODEWORDS).map(|_| codeword(random)).collect();
+        let codewords: Vec<_> = (0..random.part_of(CODEWORDS)).map(|_| codeword(random)).collect();
         for word in extremes.into_iter().chain(codewords) {
             up_to_two(CODEWORD).for_each(|places| see(turned(word, places)));
         }
@@ -282,7 +326,7 @@ impl Subject for Decode {
         let mut compared = 0;
         Self::each_word(random, |word| {
             compared += 1;
-            if !same(&word, orion::tps_bch_decode(&word), call::tps_bch_decode) {
+            if !same(&word, Self::theirs(&word), call::tps_bch_decode) {
                 differs(Coding { bits: word.to_vec(), room: Room::Exact });
             }
         });
@@ -299,7 +343,7 @@ impl Subject for Decode {
             assert!(orion::tps_bch_decode(&case.bits).is_none(), "orion-sdr decodes {} bits", case.bits.len());
             return Expected::orion(case.refused(INFORMATION, LENGTH));
         }
-        case.owed(orion::tps_bch_decode)
+        case.owed(Self::theirs)
     }
 
     fn smaller<'a>(&'a self, case: &'a Coding) -> Box<dyn Iterator<Item = Coding> + 'a> {

@@ -13,6 +13,7 @@ mod gray;
 mod harness;
 mod lent;
 mod lines;
+mod mended;
 mod pilots;
 mod points;
 mod random;

@@ -11,7 +11,7 @@ use crate::refusals::{FULL, INCOMPLETE, LENGTH, OUTPUT_SHORT};
 use crate::sender::every_room;
 use crate::signals::{CELLS, Cells, Signal};
 use crate::sys::{SaltCell, SaltCounted, SaltTpsBit, SaltTpsDecoder, SaltUnpacked};
-use crate::words::{NONE, WORD, owed, with_word};
+use crate::words::{WORD, owed, refused, with_word};
 use crate::{call, shrink};
 use orion_sdr::waveform::dvb_t_tps::TpsDecoder;
 
@@ -287,7 +287,7 @@ impl Theirs {
     fn word(&self) -> SaltUnpacked {
         match self.decoder.is_complete() {
             true => owed(self.decoder.word(), self.decoder.bits()),
-            false => SaltUnpacked { number: INCOMPLETE, word: NONE },
+            false => refused(INCOMPLETE),
         }
     }
 }
@@ -439,7 +439,7 @@ fn bits_cases(random: &mut Random, compare: &mut dyn FnMut(Vec<Step>)) {
     }
 }
 
-/// Sent frames with wrong symbols, and the same with every byte above 1 and counts above 68 handed in.
+/// Sent frames with wrong bits, and the same with every byte above 1 and counts above 68 handed in.
 fn word_cases(random: &mut Random, compare: &mut dyn FnMut(Vec<Step>)) {
     for _ in 0..500 {
         let signal = Signal::sent(random);

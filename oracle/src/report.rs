@@ -3,9 +3,11 @@
 
 mod lines;
 #[allow(dead_code)]
+mod mended;
+#[allow(dead_code)]
 mod refusals;
 
-use lines::{put_word, read_line};
+use lines::{HEADING, put_word, read_line};
 use std::io::{self, BufRead, BufReader, BufWriter, Write};
 
 /// Bytes of the buffers, as many as tpsreport reads at once.
@@ -15,7 +17,7 @@ fn main() -> io::Result<()> {
     let mut input = BufReader::with_capacity(BUFFER, io::stdin().lock());
     let mut output = BufWriter::with_capacity(60 * BUFFER, io::stdout().lock());
     let (mut lines, mut refused, mut line) = (0u64, 0u64, Vec::new());
-    writeln!(output, "line frame points rate guard cell")?;
+    output.write_all(HEADING.as_bytes())?;
     while input.read_until(b'\n', &mut line)? > 0 {
         lines += 1;
         if line.last() == Some(&b'\n') {

@@ -1,19 +1,19 @@
-//! The report on received words, which orion-sdr has not: its words are orion-sdr's `TpsWord::unpack`'s, and its texts document 01's.
+//! The report on received words, which orion-sdr has not: its words are orion-sdr's `TpsWord::unpack`'s, its mended bits those of mended.rs, and its texts
+//! document 01's.
 
 use crate::answer::{Answer, shown};
 use crate::fields::{orion_fields, orion_word};
 use crate::harness::{Expected, Run, Subject};
 use crate::lent::{EMPTY, Lent, Room, UNTOUCHED, background, surroundings};
-use crate::lines::{DIGITS, put_word, read_line};
+use crate::lines::{DIGITS, HEADING, put_word, read_line};
+use crate::mended::Mended;
 use crate::random::Random;
 use crate::refusals::{BAD_LINE, OUTPUT_SHORT, RESERVED};
-use crate::sys::{SaltCounted, SaltUnpacked};
-use crate::words::{NONE, our_word, some_received, with_word};
+use crate::sys::SaltCounted;
+use crate::words::{refused, some_received, unpacked, with_word};
 use crate::{call, shrink};
 use orion_sdr::waveform::dvb_t_tps::TpsWord;
 
-/// The report's first line.
-const HEADING: &str = "line frame points rate guard cell\n";
 /// Bytes of room that a call asks for, for each line that it may write.
 pub const LINE_ROOM: usize = 60;
 /// So many lines are read, and so many written.
@@ -27,10 +27,10 @@ pub fn compare(run: &mut Run) {
 }
 
 /// The line of the report for a line's number and what the line says.
-pub fn line_text(number: u64, says: &Result<TpsWord, u8>) -> Vec<u8> {
+pub fn line_text(number: u64, says: &Result<(TpsWord, Mended), u8>) -> Vec<u8> {
     let mut text = Vec::new();
     match says {
-        Ok(word) => put_word(&mut text, number, *word).expect("memory takes all"),
+        Ok(read) => put_word(&mut text, number, *read).expect("memory takes all"),
         Err(refusal) => text.extend(format!("{number} refused {refusal}\n").bytes()),
     }
     text
@@ -94,10 +94,9 @@ impl Subject for ReadLine {
     }
 
     fn expected(&self, case: &Vec<u8>) -> Expected {
-        let says = read_line(case);
-        let (number, word) = says.map_or_else(|number| (number, NONE), |word| (0, our_word(orion_fields(word))));
-        let answer = with_word(Answer::default(), "", SaltUnpacked { number, word }).surroundings(UNTOUCHED);
-        if number == BAD_LINE { Expected::document(answer) } else { Expected::orion(answer) }
+        let owed = read_line(case).map_or_else(refused, |(word, mended)| unpacked(0, orion_fields(word), mended));
+        let answer = with_word(Answer::default(), "", owed).surroundings(UNTOUCHED);
+        if owed.number == BAD_LINE { Expected::document(answer) } else { Expected::orion(answer) }
     }
 
     fn smaller<'a>(&'a self, case: &'a Vec<u8>) -> Box<dyn Iterator<Item = Vec<u8>> + 'a> {
@@ -149,6 +148,7 @@ struct Putting {
     line: u64,
     number: u8,
     fields: [u8; 5],
+    mended: Mended,
     room: Room,
 }
 
@@ -160,39 +160,56 @@ impl PutLine {
         let shift = random.below(64);
         random.next() >> shift
     }
+
+    /// Bits mended, so many, at places that are any numbers: they aren't written.
+    fn some_mended(random: &mut Random, count: usize) -> Mended {
+        let [first, second] = [(); 2].map(|()| Self::some_number(random) as usize);
+        Mended { count, first, second }
+    }
 }
 
 impl Subject for PutLine {
     type Case = Putting;
 
-    /// Numbers about every power of ten and of two, all refusals, every byte in each field of a word, and random lines of received words, in all rooms.
+    /// Numbers about every power of ten and of two, all refusals, every byte in each field of a word, counts of mended bits to 300 and about every power of
+    /// two, and random lines of received words, in all rooms.
     fn each_case(&self, random: &mut Random, compare: &mut dyn FnMut(Putting)) {
         let powers = (0..20).map(|power| 10u64.pow(power)).chain((0..64).map(|power| 1 << power)).chain([u64::MAX]);
         for line in powers.flat_map(|power| [power.wrapping_sub(1), power, power.wrapping_add(1)]) {
-            rooms(random).into_iter().for_each(|room| compare(Putting { line, number: 0, fields: [0; 5], room }));
+            let mended = Self::some_mended(random, (line % 3) as usize);
+            rooms(random).into_iter().for_each(|room| compare(Putting { line, number: 0, fields: [0; 5], mended, room }));
         }
         for (field, code) in (0..5).flat_map(|field| (0..=u8::MAX).map(move |code| (field, code))) {
             let mut fields = [0; 5];
             fields[field] = code;
             for number in [0, 1 + random.below(255) as u8, code] {
-                let line = Self::some_number(random);
-                rooms(random).into_iter().for_each(|room| compare(Putting { line, number, fields, room }));
+                let (line, count) = (Self::some_number(random), random.below(3));
+                let mended = Self::some_mended(random, count);
+                rooms(random).into_iter().for_each(|room| compare(Putting { line, number, fields, mended, room }));
+            }
+        }
+        let powers = (0..usize::BITS).flat_map(|power| [0, 1, 2].map(|above| (1usize << power) + above));
+        for count in (0..=300).chain(powers).chain([usize::MAX - 1, usize::MAX]) {
+            for number in [0, 1 + random.below(255) as u8] {
+                let (line, mended) = (Self::some_number(random), Self::some_mended(random, count));
+                rooms(random).into_iter().for_each(|room| compare(Putting { line, number, fields: [0; 5], mended, room }));
             }
         }
         for _ in 0..LINES {
             let (line, says) = (Self::some_number(random), read_line(&some_digits(random)));
-            let (number, fields) = says.map_or_else(|number| (number, [0; 5]), |word| (0, orion_fields(word)));
-            compare(Putting { line, number, fields, room: Room::Exact });
+            let (number, fields, mended) = says.map_or_else(|number| (number, [0; 5], Mended::NONE), |(word, mended)| (0, orion_fields(word), mended));
+            compare(Putting { line, number, fields, mended, room: Room::Exact });
         }
     }
 
     fn ours(&self, case: &Putting) -> Answer {
         let mut out = Lent::to_write("output", &background(case.room.size(LINE_ROOM)));
-        let answer = call::put_line(case.line, SaltUnpacked { number: case.number, word: our_word(case.fields) }, out.slice_mut());
+        let answer = call::put_line(case.line, unpacked(case.number, case.fields, case.mended), out.slice_mut());
         texted(out, answer)
     }
 
-    /// The text of a word that orion-sdr has; a code outside its enum is RESERVED, behind OUTPUT SHORT, and beside a refusal a word isn't looked at.
+    /// The text of a word that orion-sdr has; a code outside its enum is RESERVED, behind OUTPUT SHORT, and beside a refusal a word isn't looked at. More
+    /// than two mended bits, which no call answers, are written as 2.
     fn expected(&self, case: &Putting) -> Expected {
         let size = case.room.size(LINE_ROOM);
         if size < LINE_ROOM {
@@ -200,11 +217,11 @@ impl Subject for PutLine {
         }
         let says = match (case.number, orion_word(case.fields)) {
             (0, None) => return Expected::document(owed_text(size, Err(RESERVED))),
-            (0, Some(word)) => Ok(word),
+            (0, Some(word)) => Ok((word, Mended { count: case.mended.count.min(2), ..case.mended })),
             (number, _) => Err(number),
         };
         let answer = owed_text(size, Ok(&line_text(case.line, &says)));
-        if says.is_ok() { Expected::orion(answer) } else { Expected::document(answer) }
+        if says.is_ok() && case.mended.count <= 2 { Expected::orion(answer) } else { Expected::document(answer) }
     }
 
     fn smaller<'a>(&'a self, case: &'a Putting) -> Box<dyn Iterator<Item = Putting> + 'a> {
@@ -212,11 +229,14 @@ impl Subject for PutLine {
         let lines = shrink::numbers(case.line as usize).map(|line| Putting { line: line as u64, ..*case });
         let numbers = shrink::numbers(usize::from(case.number)).map(|number| Putting { number: number as u8, ..*case });
         let fields = shrink::plainer(&case.fields).map(|fields| Putting { fields: fields.try_into().expect("five"), ..*case });
-        Box::new(rooms.chain(lines).chain(numbers).chain(fields.collect::<Vec<_>>()))
+        let mended = shrink::numbers(case.mended.count).map(|count| Putting { mended: Mended { count, ..Mended::NONE }, ..*case });
+        Box::new(rooms.chain(lines).chain(numbers).chain(mended).chain(fields.collect::<Vec<_>>()))
     }
 
     fn show(&self, case: &Putting) -> String {
         let (size, fields) = (case.room.size(LINE_ROOM), shown(&case.fields));
-        format!("line {}, number {}, word (frame number, codes, cell id) {fields}; output of {size} bytes lent", case.line, case.number)
+        let Putting { line, number, mended: Mended { count, first, second }, .. } = case;
+        let mended = format!("{count} bits mended at {first} and {second}");
+        format!("line {line}, number {number}, word (frame number, codes, cell id) {fields}, {mended}; output of {size} bytes lent")
     }
 }

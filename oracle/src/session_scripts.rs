@@ -205,7 +205,7 @@ pub fn resets(random: &mut Random, compare: &mut dyn FnMut(Vec<Step>)) {
     }
 }
 
-/// Sent frames, none to four of whose symbols are wrong; the same with some symbols taken back and fed again.
+/// Sent frames, none to eight of whose bits are wrong; the same with some symbols taken back and fed again.
 pub fn words(random: &mut Random, compare: &mut dyn FnMut(Vec<Step>)) {
     for _ in 0..200 {
         let mut growing = Growing::new(Signal::sent(random));

@@ -9,7 +9,7 @@ use crate::refusals::INCOMPLETE;
 use crate::session_calls::{DATA, JOURNAL, Memory, SYMBOL, Seen, Step};
 use crate::signals::CELLS;
 use crate::sys::{SaltSession, SaltUnpacked};
-use crate::words::{NONE, WORD, owed};
+use crate::words::{WORD, owed, refused};
 use num_complex::Complex32;
 use orion_sdr::waveform::dvb_t::{GuardInterval, ScatteredPilotExtractor, tps_carrier_bins};
 use orion_sdr::waveform::dvb_t_tps::TpsDecoder;
@@ -167,7 +167,7 @@ impl<'a> Theirs<'a> {
     fn word(&self) -> SaltUnpacked {
         match self.orion.decoder.is_complete() {
             true => owed(self.orion.decoder.word(), self.orion.decoder.bits()),
-            false => SaltUnpacked { number: INCOMPLETE, word: NONE },
+            false => refused(INCOMPLETE),
         }
     }
 }

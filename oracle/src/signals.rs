@@ -56,7 +56,7 @@ impl Signal {
         Self { kind, frame: [[0.0; CELLS]; WORD], corners }
     }
 
-    /// A sent frame, none to four of whose symbols are wrong.
+    /// A sent frame, none to eight of whose bits are wrong.
     pub fn sent(random: &mut Random) -> Self {
         let (angle, size) = (unit(random) * 3.2, size(random, -20, 20));
         let noise = [0.0, 0.1, 0.5, 1.0][random.below(4)] * size;
@@ -100,7 +100,7 @@ fn size(random: &mut Random, low: i32, high: i32) -> f32 {
     2f64.powi(power) as f32
 }
 
-/// A sent frame, none to four of whose symbols are turned over.
+/// A sent frame; none to four times one of its symbols is turned over, which makes two bits wrong, or all from one on, which makes one bit wrong.
 fn some_frame(random: &mut Random) -> [Cells; WORD] {
     let (bits, mut encoder) = (some_sent(random), TpsEncoder::new());
     let mut frame = bits.map(|bit| {
@@ -108,8 +108,9 @@ fn some_frame(random: &mut Random) -> [Cells; WORD] {
         each(|place| if place % 2 == 0 { cells[place / 2].re } else { cells[place / 2].im })
     });
     for _ in 0..random.below(5) {
-        let place = random.below(WORD);
-        frame[place] = frame[place].map(|float| -float);
+        let first = random.below(WORD);
+        let behind = [first + 1, WORD][random.below(2)];
+        frame[first..behind].iter_mut().flatten().for_each(|float| *float = -*float);
     }
     frame
 }

@@ -1,10 +1,11 @@
-//! The TPS word: pack and unpack of orion-sdr's TpsWord in dvb_t_tps.rs.
+//! The TPS word: pack and unpack of orion-sdr's TpsWord in dvb_t_tps.rs; the bits that are mended are those of mended.rs.
 
 use crate::answer::{Answer, shown};
-use crate::codes::{information, some_places, turned, two_items, with_fewer_ones};
+use crate::codes::{information, some_places, turned, two_items, with_fewer_ones, with_mended};
 use crate::fields::{orion_fields, orion_word};
 use crate::harness::{Expected, Run, Subject};
 use crate::lent::{EMPTY, Lent, Room, UNTOUCHED, background, surroundings};
+use crate::mended::{Mended, mended};
 use crate::random::Random;
 use crate::refusals::{LENGTH, NO_WORD, NOT_A_BIT, OUTPUT_SHORT, RESERVED};
 use crate::sys::{SaltTpsWord, SaltUnpacked};
@@ -17,8 +18,6 @@ pub const WORD: usize = 68;
 const INFORMATION: usize = 53;
 /// So many received words are unpacked.
 const WORDS: usize = 1_000_000;
-/// What stands beside a refusal.
-pub const NONE: SaltTpsWord = SaltTpsWord { frame_number: 0, constellation: 0, code_rate_hp: 0, guard: 0, cell_id: 0 };
 
 /// Compares both functions of this module.
 pub fn compare(run: &mut Run) {
@@ -31,17 +30,27 @@ pub fn our_word([frame_number, constellation, code_rate_hp, guard, cell_id]: [u8
     SaltTpsWord { frame_number, constellation, code_rate_hp, guard, cell_id }
 }
 
+/// The port's answer with a number, the word with these fields, and the bits that were mended.
+pub fn unpacked(number: u8, fields: [u8; 5], Mended { count: mended, first, second }: Mended) -> SaltUnpacked {
+    SaltUnpacked { number, word: our_word(fields), mended, first, second }
+}
+
+/// What is owed for a refusal: the number, zeros, and no bit mended.
+pub fn refused(number: u8) -> SaltUnpacked {
+    unpacked(number, [0; 5], Mended::NONE)
+}
+
 /// What is owed for 68 bits of which orion-sdr read this word: where it read none, NO WORD if its decoder finds none, else RESERVED.
 pub fn owed(read: Option<TpsWord>, bits: &[u8]) -> SaltUnpacked {
     let number = match (read, orion::tps_bch_decode(&bits[1..])) {
-        (Some(word), _) => return SaltUnpacked { number: 0, word: our_word(orion_fields(word)) },
+        (Some(word), _) => return unpacked(0, orion_fields(word), mended(&bits[1..]).expect("a codeword near bits that orion-sdr reads")),
         (None, None) => NO_WORD,
         (None, Some(info)) => {
             assert!(has_reserved_code(&info), "orion-sdr reads no word from codes that aren't reserved: {}", shown(&info));
             RESERVED
         }
     };
-    SaltUnpacked { number, word: NONE }
+    refused(number)
 }
 
 /// Whether information has constellation code 3 (s25, s26) or rate code 5, 6 or 7 (s30 to s32).
@@ -198,17 +207,19 @@ impl Subject for Pack {
 struct Unpack;
 
 impl Unpack {
-    /// A number and a word as they are compared.
+    /// A number, a word and the bits that were mended, as they are compared.
     fn answer(unpacked: SaltUnpacked) -> Answer {
         with_word(Answer::default(), "", unpacked)
     }
 }
 
-/// An answer with a number and a word more.
+/// An answer with a number, a word and the bits that were mended more.
 pub fn with_word(answer: Answer, name: &str, unpacked: SaltUnpacked) -> Answer {
-    let SaltTpsWord { frame_number, constellation, code_rate_hp, guard, cell_id } = unpacked.word;
-    let answer = answer.number(&format!("{name}word's number"), u64::from(unpacked.number));
-    answer.bytes(&format!("{name}word (frame number, codes, cell id)"), &[frame_number, constellation, code_rate_hp, guard, cell_id])
+    let SaltUnpacked { number, word, mended, first, second } = unpacked;
+    let SaltTpsWord { frame_number, constellation, code_rate_hp, guard, cell_id } = word;
+    let answer = answer.number(&format!("{name}word's number"), u64::from(number));
+    let answer = answer.bytes(&format!("{name}word (frame number, codes, cell id)"), &[frame_number, constellation, code_rate_hp, guard, cell_id]);
+    with_mended(answer, name, Mended { count: mended, first, second })
 }
 
 impl Subject for Unpack {
@@ -251,7 +262,7 @@ impl Subject for Unpack {
 
     /// orion-sdr's None is LENGTH where the length isn't 68, whatever the items are; it passes items above 1 on and isn't called for them.
     fn expected(&self, case: &Vec<u8>) -> Expected {
-        let refused = |number| Self::answer(SaltUnpacked { number, word: NONE }).surroundings(UNTOUCHED);
+        let refused = |number| Self::answer(refused(number)).surroundings(UNTOUCHED);
         if case.len() != WORD {
             assert!(TpsWord::unpack(case).is_none(), "orion-sdr unpacks {} bits", case.len());
             return Expected::orion(refused(LENGTH));

@@ -182,7 +182,7 @@ pub fn tps_bch_encode(info: &[u8], out: &mut [u8]) -> SaltCounted {
     unsafe { salt_tps_bch_encode(info.as_ptr(), info.len(), out.as_mut_ptr(), out.len()) }
 }
 
-pub fn tps_bch_decode(code: &[u8], out: &mut [u8]) -> SaltCounted {
+pub fn tps_bch_decode(code: &[u8], out: &mut [u8]) -> SaltDecoded {
     unsafe { salt_tps_bch_decode(code.as_ptr(), code.len(), out.as_mut_ptr(), out.len()) }
 }
 

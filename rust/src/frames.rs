@@ -5,7 +5,7 @@ use crate::complex::Complex32;
 use crate::numbers::{floats, floats_mut};
 use crate::refusal::{accepted, Refusal};
 use crate::sys::{SaltTpsDecoder, SaltTpsEncoder, SALT_TPS_CARRIERS, SALT_TPS_WORD_BITS};
-use crate::words::{word_of, TpsWord};
+use crate::words::{mended_word_of, word_of, Mended, TpsWord};
 
 /// The TPS carriers of a symbol.
 pub const TPS_CARRIER_COUNT: usize = SALT_TPS_CARRIERS;
@@ -127,6 +127,22 @@ impl TpsDecoder {
     /// The word of 68 received bits. Refusals: [`Refusal::Incomplete`], [`Refusal::NoWord`], then [`Refusal::Reserved`].
     pub fn word(&self) -> Result<TpsWord, Refusal> {
         word_of(call::tps_decoder_word(self.state))
+    }
+
+    /// [`word`](Self::word), and the bits of s1 to s67 that were mended.
+    ///
+    /// ```
+    /// use saltkernel::waveform::dvb_t_tps::{TpsDecoder, TpsEncoder};
+    ///
+    /// let (mut encoder, mut decoder) = (TpsEncoder::new(), TpsDecoder::new());
+    /// for n in 0..68 {
+    ///     decoder.feed_symbol(&encoder.next_symbol(u8::from(n == 5))?)?;
+    /// }
+    /// assert_eq!(decoder.word_mended()?.1.places(), [4]);
+    /// # Ok::<(), saltkernel::Refusal>(())
+    /// ```
+    pub fn word_mended(&self) -> Result<(TpsWord, Mended), Refusal> {
+        mended_word_of(call::tps_decoder_word(self.state))
     }
 }
 

@@ -35,6 +35,7 @@
 //! | [`ConstellationOrder`] has three cases | and BPSK and 256-QAM |
 //! | [`GridMap`] and [`GridExtract`] are those of the 2K plan with continual pilots alone; `process` is their own | any `CarrierGrid`; `process` is a trait's |
 //! | a 69th symbol is refused | collected |
+//! | [`tps_bch_decode_mended`], [`unpack_mended`] and [`word_mended`] tell which bits were mended, too | not told |
 //! | left out | `TS_SYNC_BYTE_INVERTED`, `is_dvb_t_constellation`, plans, guard lengths in samples, bandwidths, configurations |
 //!
 //! The guard interval that a mapper or extractor is made for plays no part in the grid, there and here.
@@ -52,6 +53,9 @@
 //! [`extract_symbol`]: waveform::dvb_t::ScatteredPilotExtractor::extract_symbol
 //! [`next_symbol`]: waveform::dvb_t_tps::TpsEncoder::next_symbol
 //! [`feed_symbol`]: waveform::dvb_t_tps::TpsDecoder::feed_symbol
+//! [`tps_bch_decode_mended`]: waveform::dvb_t_tps::tps_bch_decode_mended
+//! [`unpack_mended`]: waveform::dvb_t_tps::TpsWord::unpack_mended
+//! [`word_mended`]: waveform::dvb_t_tps::TpsDecoder::word_mended
 //! [`GridMap`]: multicarrier::GridMap
 //! [`GridExtract`]: multicarrier::GridExtract
 //! [`ConstellationOrder`]: modulate::ConstellationOrder
@@ -105,8 +109,8 @@ pub mod waveform {
     /// TPS: the code, the word, the sender and the receiver.
     pub mod dvb_t_tps {
         pub use crate::frames::*;
-        pub use crate::words::{tps_bch_decode, tps_bch_decode_into, tps_bch_encode, tps_bch_encode_into};
-        pub use crate::words::{TpsWord, TPS_CODEWORD_BITS, TPS_INFO_BITS, TPS_PARITY_BITS};
+        pub use crate::words::{tps_bch_decode, tps_bch_decode_into, tps_bch_decode_mended, tps_bch_encode, tps_bch_encode_into};
+        pub use crate::words::{Mended, TpsWord, TPS_CODEWORD_BITS, TPS_INFO_BITS, TPS_PARITY_BITS};
     }
 }
 

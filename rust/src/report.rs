@@ -7,7 +7,7 @@ use crate::call;
 use crate::packets::count_of;
 use crate::refusal::Refusal;
 use crate::sys::{SaltReader, SaltTpsWord, SaltUnpacked, SALT_CLOSE_ROOM, SALT_HEADING_BYTES, SALT_LINE_ROOM};
-use crate::words::{codes_of, word_of, TpsWord};
+use crate::words::{codes_of, mended_word_of, word_of, Mended, TpsWord};
 
 /// The bytes of the heading.
 pub const HEADING_BYTES: usize = SALT_HEADING_BYTES;
@@ -34,20 +34,37 @@ pub fn read_line(line: &[u8]) -> Result<TpsWord, Refusal> {
     word_of(call::read_line(line))
 }
 
-/// Writes the heading to a lent output; gives 34, or [`Refusal::OutputShort`].
+/// [`read_line`], and the bits of s1 to s67 that were mended: the answer that [`put_line`] writes.
+///
+/// ```
+/// use saltkernel::report::{put_line, read_line_mended, LINE_ROOM};
+///
+/// let answer = read_line_mended(b"00000000000000001");
+/// assert_eq!(answer?.1.places(), [66]);
+/// let mut line = [0; LINE_ROOM];
+/// let length = put_line(7, answer, &mut line)?;
+/// assert_eq!(&line[..length], b"7 0 4 1/2 1/32 00 1\n");
+/// # Ok::<(), saltkernel::Refusal>(())
+/// ```
+pub fn read_line_mended(line: &[u8]) -> Result<(TpsWord, Mended), Refusal> {
+    mended_word_of(call::read_line(line))
+}
+
+/// Writes the heading to a lent output; gives 41, or [`Refusal::OutputShort`].
 pub fn put_heading(out: &mut [u8]) -> Result<usize, Refusal> {
     count_of(call::put_heading(out))
 }
 
 /// Writes the report's line for a line's number and its answer to a lent output of at least [`LINE_ROOM`] bytes; gives the bytes written, or
 /// [`Refusal::OutputShort`].
-pub fn put_line(number: u64, answer: Result<TpsWord, Refusal>, out: &mut [u8]) -> Result<usize, Refusal> {
+pub fn put_line(number: u64, answer: Result<(TpsWord, Mended), Refusal>, out: &mut [u8]) -> Result<usize, Refusal> {
     const NO_WORD: SaltTpsWord = SaltTpsWord { frame_number: 0, constellation: 0, code_rate_hp: 0, guard: 0, cell_id: 0 };
-    let answer = match answer {
-        Ok(word) => SaltUnpacked { number: 0, word: codes_of(word) },
-        Err(refusal) => SaltUnpacked { number: refusal.number(), word: NO_WORD },
+    let (refusal, word, mended) = match answer {
+        Ok((word, mended)) => (0, codes_of(word), mended),
+        Err(refusal) => (refusal.number(), NO_WORD, Mended::default()),
     };
-    count_of(call::put_line(number, answer, out))
+    let [first, second] = mended.both;
+    count_of(call::put_line(number, SaltUnpacked { number: refusal, word, mended: mended.count, first, second }, out))
 }
 
 /// The reader of an input that comes in parts. In whatever parts it comes, the report is the same.
@@ -61,7 +78,7 @@ pub fn put_line(number: u64, answer: Result<TpsWord, Refusal>, out: &mut [u8]) -
 /// report.extend(reader.feed(b"0000000000000"));
 /// report.extend(reader.feed(b"0000\nno word"));
 /// report.extend(reader.close());
-/// assert_eq!(report, b"line frame points rate guard cell\n1 0 4 1/2 1/32 00\n2 refused 9\nread 2 refused 1\n");
+/// assert_eq!(report, b"line frame points rate guard cell mended\n1 0 4 1/2 1/32 00 0\n2 refused 9\nread 2 refused 1\n");
 /// # Ok::<(), saltkernel::Refusal>(())
 /// ```
 #[derive(Clone, Debug)]

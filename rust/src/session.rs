@@ -5,7 +5,7 @@ use crate::complex::Complex32;
 use crate::numbers::{floats, floats_mut};
 use crate::refusal::{accepted, Refusal};
 use crate::sys::{SaltSession, SALT_JOURNAL_FLOATS};
-use crate::words::{word_of, TpsWord};
+use crate::words::{mended_word_of, word_of, Mended, TpsWord};
 
 /// The receive session: the extractor and the TPS decoder joined, and it can step back. With n symbols standing the phase is n mod 4.
 ///
@@ -84,5 +84,23 @@ impl Session {
     /// The word of 68 standing symbols. Refusals: [`Refusal::Incomplete`], [`Refusal::NoWord`], then [`Refusal::Reserved`].
     pub fn word(&self) -> Result<TpsWord, Refusal> {
         word_of(call::session_word(self.state))
+    }
+
+    /// [`word`](Self::word), and the bits of s1 to s67 that were mended.
+    ///
+    /// ```
+    /// use saltkernel::session::Session;
+    /// use saltkernel::Complex32;
+    ///
+    /// let (mut session, mut out) = (Session::new(), vec![Complex32::default(); 1512]);
+    /// for n in 0..68 {
+    ///     let sign = if n < 7 { 1.0 } else { -1.0 };
+    ///     session.feed(&vec![Complex32::new(sign, 0.0); 2048], &mut out)?;
+    /// }
+    /// assert_eq!(session.word_mended()?.1.places(), [6]);
+    /// # Ok::<(), saltkernel::Refusal>(())
+    /// ```
+    pub fn word_mended(&self) -> Result<(TpsWord, Mended), Refusal> {
+        mended_word_of(call::session_word(self.state))
     }
 }

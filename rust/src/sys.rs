@@ -39,10 +39,11 @@ mod sizes {
     pub const SALT_SIGNED_LAST: usize = 852;
     pub const SALT_TPS_INFORMATION_BITS: usize = 53;
     pub const SALT_TPS_CODEWORD_BITS: usize = 67;
+    pub const SALT_NO_PLACE: usize = 255;
     pub const SALT_TPS_WORD_BITS: usize = 68;
     pub const SALT_JOURNAL_FLOATS: usize = 2312;
     pub const SALT_LINE_DIGITS: usize = 17;
-    pub const SALT_HEADING_BYTES: usize = 34;
+    pub const SALT_HEADING_BYTES: usize = 41;
     pub const SALT_LINE_ROOM: usize = 60;
     pub const SALT_CLOSE_ROOM: usize = 120;
 }
@@ -242,9 +243,19 @@ extern "C" {
 
 // ---- The code of the TPS words (4.6.2.11)
 
+#[repr(C)]
+#[derive(Clone, Copy, Debug, PartialEq, Eq)]
+pub struct SaltDecoded {
+    pub number: u8,
+    pub count: usize,
+    pub mended: usize,
+    pub first: usize,
+    pub second: usize,
+}
+
 extern "C" {
     pub fn salt_tps_bch_encode(info: *const u8, info_length: usize, out: *mut u8, out_length: usize) -> SaltCounted;
-    pub fn salt_tps_bch_decode(code: *const u8, code_length: usize, out: *mut u8, out_length: usize) -> SaltCounted;
+    pub fn salt_tps_bch_decode(code: *const u8, code_length: usize, out: *mut u8, out_length: usize) -> SaltDecoded;
 }
 
 // ---- The TPS word (4.6.2)
@@ -264,6 +275,9 @@ pub struct SaltTpsWord {
 pub struct SaltUnpacked {
     pub number: u8,
     pub word: SaltTpsWord,
+    pub mended: usize,
+    pub first: usize,
+    pub second: usize,
 }
 
 extern "C" {
@@ -395,11 +409,11 @@ extern "C" {
 // ---- The layout
 
 extern "C" {
-    pub fn salt_layout_d8a5efea() -> u32;
+    pub fn salt_layout_a03db9ee() -> u32;
 }
 
 /// Refers to the layout, so that nothing links with an archive of another one; it is called as a program starts, since
 /// a linker drops nothing of what is.
 #[used]
 #[link_section = ".init_array"]
-static LAYOUT: unsafe extern "C" fn() -> u32 = salt_layout_d8a5efea;
+static LAYOUT: unsafe extern "C" fn() -> u32 = salt_layout_a03db9ee;

@@ -3,7 +3,7 @@
 use crate::call;
 use crate::packets::count_of;
 use crate::refusal::{accepted, Refusal};
-use crate::sys::{SaltTpsWord, SaltUnpacked, SALT_TPS_CODEWORD_BITS, SALT_TPS_INFORMATION_BITS};
+use crate::sys::{SaltTpsWord, SaltUnpacked, SALT_NO_PLACE, SALT_TPS_CODEWORD_BITS, SALT_TPS_INFORMATION_BITS};
 
 /// The bits of a codeword.
 pub const TPS_CODEWORD_BITS: usize = SALT_TPS_CODEWORD_BITS;
@@ -11,6 +11,27 @@ pub const TPS_CODEWORD_BITS: usize = SALT_TPS_CODEWORD_BITS;
 pub const TPS_INFO_BITS: usize = SALT_TPS_INFORMATION_BITS;
 /// The parity bits of a codeword.
 pub const TPS_PARITY_BITS: usize = TPS_CODEWORD_BITS - TPS_INFO_BITS;
+
+/// The bits of a codeword that were mended: none, one or two.
+#[derive(Clone, Copy, Debug, PartialEq, Eq, Hash)]
+pub struct Mended {
+    pub(crate) count: usize,
+    pub(crate) both: [usize; 2],
+}
+
+impl Default for Mended {
+    /// None.
+    fn default() -> Self {
+        Mended { count: 0, both: [SALT_NO_PLACE; 2] }
+    }
+}
+
+impl Mended {
+    /// Their places, rising, from 0 to 66; of a word, place 0 is s1 and place 66 is s67.
+    pub fn places(&self) -> &[usize] {
+        &self.both[..self.count]
+    }
+}
 
 /// The codeword of 53 information bits: these, then 14 bits of parity. Refusals: [`Refusal::Length`], then [`Refusal::NotABit`].
 ///
@@ -39,15 +60,32 @@ pub fn tps_bch_encode_into(info: &[u8], out: &mut [u8]) -> Result<usize, Refusal
 /// The 53 information bits of the codeword within distance two of 67 bits. Refusals: [`Refusal::Length`], [`Refusal::NotABit`], then
 /// [`Refusal::NoWord`].
 pub fn tps_bch_decode(codeword: &[u8]) -> Result<[u8; TPS_INFO_BITS], Refusal> {
+    tps_bch_decode_mended(codeword).map(|(information, _)| information)
+}
+
+/// [`tps_bch_decode`], and the bits that were mended: those at which the codeword and the given bits differ.
+///
+/// ```
+/// use saltkernel::waveform::dvb_t_tps::{tps_bch_decode_mended, tps_bch_encode};
+///
+/// let mut word = tps_bch_encode(&[1; 53])?;
+/// word[60] ^= 1;
+/// word[3] ^= 1;
+/// let (information, mended) = tps_bch_decode_mended(&word)?;
+/// assert_eq!((information, mended.places()), ([1; 53], &[3, 60][..]));
+/// # Ok::<(), saltkernel::Refusal>(())
+/// ```
+pub fn tps_bch_decode_mended(codeword: &[u8]) -> Result<([u8; TPS_INFO_BITS], Mended), Refusal> {
     let mut out = [0; TPS_INFO_BITS];
-    tps_bch_decode_into(codeword, &mut out)?;
-    Ok(out)
+    let answer = call::tps_bch_decode(codeword, &mut out);
+    accepted(answer.number, (out, Mended { count: answer.mended, both: [answer.first, answer.second] }))
 }
 
 /// [`tps_bch_decode`] into a lent output; gives 53. Refusals: [`Refusal::Length`], [`Refusal::NotABit`], [`Refusal::OutputShort`], then
 /// [`Refusal::NoWord`].
 pub fn tps_bch_decode_into(codeword: &[u8], out: &mut [u8]) -> Result<usize, Refusal> {
-    count_of(call::tps_bch_decode(codeword, out))
+    let answer = call::tps_bch_decode(codeword, out);
+    accepted(answer.number, answer.count)
 }
 
 /// The constellation of the data cells.
@@ -147,6 +185,23 @@ impl TpsWord {
     pub fn unpack(bits: &[u8]) -> Result<Self, Refusal> {
         word_of(call::tps_word_unpack(bits))
     }
+
+    /// [`unpack`](Self::unpack), and the bits of s1 to s67 that were mended.
+    ///
+    /// ```
+    /// use saltkernel::waveform::dvb_t_tps::TpsWord;
+    ///
+    /// let mut bits = [0; 68];
+    /// bits[0] = 1;
+    /// bits[1] = 1;
+    /// bits[67] = 1;
+    /// let (word, mended) = TpsWord::unpack_mended(&bits)?;
+    /// assert_eq!((word.cell_id, mended.places()), (0, &[0, 66][..]));
+    /// # Ok::<(), saltkernel::Refusal>(())
+    /// ```
+    pub fn unpack_mended(bits: &[u8]) -> Result<(Self, Mended), Refusal> {
+        mended_word_of(call::tps_word_unpack(bits))
+    }
 }
 
 /// The codes of a word.
@@ -169,4 +224,10 @@ pub(crate) fn word_of(answer: SaltUnpacked) -> Result<TpsWord, Refusal> {
         guard: GUARDS[usize::from(codes.guard)],
         cell_id: codes.cell_id,
     })
+}
+
+/// The word of an answer and the bits that were mended, or its refusal.
+pub(crate) fn mended_word_of(answer: SaltUnpacked) -> Result<(TpsWord, Mended), Refusal> {
+    let mended = Mended { count: answer.mended, both: [answer.first, answer.second] };
+    word_of(answer).map(|word| (word, mended))
 }

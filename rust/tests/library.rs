@@ -3,7 +3,7 @@
 use saltkernel::fec::PunctureRate;
 use saltkernel::modulate::ConstellationOrder;
 use saltkernel::multicarrier::*;
-use saltkernel::report::{put_heading, put_line, read_line, Reader, CLOSE_ROOM, HEADING_BYTES, LINE_ROOM};
+use saltkernel::report::{put_heading, put_line, read_line, read_line_mended, Reader, CLOSE_ROOM, HEADING_BYTES, LINE_ROOM};
 use saltkernel::session::Session;
 use saltkernel::waveform::dvb_t::*;
 use saltkernel::waveform::dvb_t_tps::*;
@@ -213,10 +213,15 @@ fn two_wrong_bits_are_mended() {
         wrong[place] ^= 1;
         wrong[(place + 11) % 67] ^= 1;
         assert_eq!(tps_bch_decode(&wrong).unwrap()[..], info[..]);
+        let mut places = [place, (place + 11) % 67];
+        places.sort_unstable();
+        assert_eq!(tps_bch_decode_mended(&wrong).unwrap().1.places(), places);
     }
+    assert_eq!(tps_bch_decode_mended(&code).unwrap().1, Mended::default());
     let mut none = [0; 67];
     (none[59], none[63], none[66]) = (1, 1, 1);
     assert_eq!(tps_bch_decode(&none), Err(Refusal::NoWord));
+    assert_eq!(tps_bch_decode_mended(&none), Err(Refusal::NoWord));
     assert_eq!(tps_bch_decode_into(&none, &mut [0; 52]), Err(Refusal::OutputShort));
     none[0] = 2;
     assert_eq!(tps_bch_decode(&none), Err(Refusal::NotABit));
@@ -261,6 +266,7 @@ fn a_frame_is_sent_and_received() {
         assert_eq!((decoder.bits_into(&mut out), &out[..=n], out[n + 1]), (Ok(n + 1), decoder.bits(), 9));
     }
     assert_eq!((decoder.is_complete(), decoder.bits(), decoder.word()), (true, &WORD.pack()[..], Ok(WORD)));
+    assert_eq!(decoder.word_mended(), Ok((WORD, Mended::default())));
     assert_eq!(decoder.feed_symbol(&[ZERO; 17]), Err(Refusal::Full));
     assert_eq!(decoder.bits().len(), 68);
     let first = TpsEncoder::new().next_symbol(0);
@@ -295,6 +301,7 @@ fn a_session_steps_back_to_where_it_was() {
         }
     }
     assert_eq!((session.bits(), session.word()), (&WORD.pack()[..], Ok(WORD)));
+    assert_eq!(session.word_mended(), Ok((WORD, Mended::default())));
     assert_eq!(session.feed(&symbol, &mut out), Err(Refusal::Full));
     let copy = session.clone();
     for n in (0..68).rev() {
@@ -317,10 +324,12 @@ fn lines_are_read_and_written() {
     assert_eq!(read_line(&line), Ok(WORD));
     assert_eq!(read_line(&line[1..]), Err(Refusal::BadLine));
     assert_eq!(read_line(&line.to_ascii_uppercase()), Err(Refusal::BadLine));
-    assert_eq!(put_line(7, Ok(WORD), &mut out[1..]), Err(Refusal::OutputShort));
+    let clean = Ok((WORD, Mended::default()));
+    assert_eq!(read_line_mended(&line), clean);
+    assert_eq!(put_line(7, clean, &mut out[1..]), Err(Refusal::OutputShort));
     assert_eq!(out, [b'.'; LINE_ROOM]);
-    let text = b"18446744073709551615 3 16 7/8 1/16 c3\n";
-    assert_eq!(put_line(u64::MAX, Ok(WORD), &mut out), Ok(text.len()));
+    let text = b"18446744073709551615 3 16 7/8 1/16 c3 0\n";
+    assert_eq!(put_line(u64::MAX, clean, &mut out), Ok(text.len()));
     assert_eq!(&out[..text.len()], text);
     for refusal in Refusal::ALL {
         let count = put_line(1, Err(refusal), &mut out).unwrap();
@@ -333,7 +342,7 @@ fn lines_are_read_and_written() {
 #[test]
 fn a_report_is_the_same_in_all_parts() {
     let input = [&line_of(WORD)[..], b"\n\n", &[b'0'; 200], b"\n", &[b'0'; 17]].concat();
-    let whole = b"1 3 16 7/8 1/16 c3\n2 refused 9\n3 refused 9\n4 0 4 1/2 1/32 00\nread 4 refused 2\n";
+    let whole = b"1 3 16 7/8 1/16 c3 0\n2 refused 9\n3 refused 9\n4 0 4 1/2 1/32 00 0\nread 4 refused 2\n";
     for size in 1..=input.len() {
         let mut reader = Reader::new();
         let mut report: Vec<u8> = input.chunks(size).flat_map(|part| reader.feed(part)).collect();

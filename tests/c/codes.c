@@ -4,7 +4,12 @@
 #include <stdio.h>
 #include <string.h>
 
-/* Every codeword with no, one or two wrong bits is read as it was. */
+/* Whether an answer tells so many mended bits, at these places. */
+static int told(SaltDecoded read, size_t count, size_t first, size_t second) {
+    return read.mended == count && read.first == first && read.second == second;
+}
+
+/* Every codeword with no, one or two wrong bits is read as it was, and the wrong bits are told. */
 static void mended(const uint8_t *info, uint8_t *code) {
     uint8_t back[SALT_TPS_INFORMATION_BITS];
     for (size_t first = 0; first < SALT_TPS_CODEWORD_BITS; first++) {
@@ -12,13 +17,15 @@ static void mended(const uint8_t *info, uint8_t *code) {
             code[first] ^= 1;
             code[second] ^= first == second ? 0 : 1;
             memset(back, 9, sizeof back);
-            SaltCounted read = salt_tps_bch_decode(code, SALT_TPS_CODEWORD_BITS, back, sizeof back);
+            SaltDecoded read = salt_tps_bch_decode(code, SALT_TPS_CODEWORD_BITS, back, sizeof back);
             CHECK(read.number == SALT_ACCEPTED && read.count == sizeof back && memcmp(back, info, sizeof back) == 0);
+            CHECK(first == second ? told(read, 1, first, SALT_NO_PLACE) : told(read, 2, first, second));
             code[first] ^= 1;
             code[second] ^= first == second ? 0 : 1;
         }
     }
-    CHECK(salt_tps_bch_decode(code, SALT_TPS_CODEWORD_BITS, back, sizeof back).number == SALT_ACCEPTED && memcmp(back, info, sizeof back) == 0);
+    SaltDecoded read = salt_tps_bch_decode(code, SALT_TPS_CODEWORD_BITS, back, sizeof back);
+    CHECK(read.number == SALT_ACCEPTED && memcmp(back, info, sizeof back) == 0 && told(read, 0, SALT_NO_PLACE, SALT_NO_PLACE));
 }
 
 /* Three wrong bits: of all 47,905 patterns, how many are read as another codeword and how many are refused. */
@@ -65,8 +72,8 @@ void test_codes(void) {
     count_three_wrong(code);
 
     none[66 - 7] = none[66 - 3] = none[66] = 1;
-    SaltCounted refused = salt_tps_bch_decode(none, sizeof none, info, sizeof info);
-    CHECK(refused.number == SALT_NO_WORD && refused.count == 0);
+    SaltDecoded refused = salt_tps_bch_decode(none, sizeof none, info, sizeof info);
+    CHECK(refused.number == SALT_NO_WORD && refused.count == 0 && told(refused, 0, SALT_NO_PLACE, SALT_NO_PLACE));
     none[0] = 2;
     CHECK(salt_tps_bch_decode(none, sizeof none, info, 0).number == SALT_NOT_A_BIT);
     CHECK(salt_tps_bch_decode(none, 66, info, 0).number == SALT_LENGTH);

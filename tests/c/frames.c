@@ -69,6 +69,7 @@ static void full(SaltTpsDecoder decoder) {
     float cells[SALT_TPS_FLOATS] = {0};
     SaltUnpacked read = salt_tps_decoder_word(decoder);
     CHECK(salt_tps_decoder_is_complete(decoder) == 1 && read.number == SALT_ACCEPTED && memcmp(&read.word, &word, sizeof word) == 0);
+    CHECK(read.mended == 0 && read.first == SALT_NO_PLACE && read.second == SALT_NO_PLACE);
     refused_feed(decoder, cells, SALT_TPS_FLOATS, SALT_FULL);
     refused_feed(decoder, cells, SALT_TPS_FLOATS - 1, SALT_LENGTH);
     uint8_t bits[SALT_TPS_WORD_BITS];

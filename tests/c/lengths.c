@@ -101,7 +101,7 @@ static uint8_t read_line(const Lent *lent) {
 }
 static uint8_t put_heading(const Lent *lent) { return salt_put_heading(AT(0)).number; }
 static uint8_t put_line(const Lent *lent) {
-    const SaltUnpacked answer = {0, word};
+    const SaltUnpacked answer = {0, word, 0, SALT_NO_PLACE, SALT_NO_PLACE};
     return salt_put_line(1, answer, AT(0)).number;
 }
 static uint8_t reader_feed(const Lent *lent) { return salt_reader_feed(salt_reader_new(), AT(0), AT(1)).answer.number; }

@@ -24,12 +24,15 @@ static void lines_read(void) {
     uint8_t line[SALT_LINE_DIGITS];
     put_digits(line);
     SaltUnpacked read = salt_read_line(line, sizeof line);
-    CHECK(read.number == SALT_ACCEPTED && memcmp(&read.word, &word, sizeof word) == 0);
+    CHECK(read.number == SALT_ACCEPTED && memcmp(&read.word, &word, sizeof word) == 0 && read.mended == 0 && read.first == SALT_NO_PLACE);
     CHECK(salt_read_line(line, sizeof line - 1).number == SALT_BAD_LINE);
     line[3] = 'A';
     read = salt_read_line(line, sizeof line);
     CHECK(read.number == SALT_BAD_LINE && read.word.cell_id == 0);
     memset(line, '0', sizeof line);
+    line[16] = '1';
+    read = salt_read_line(line, sizeof line);
+    CHECK(read.number == SALT_ACCEPTED && read.mended == 1 && read.first == 66 && read.second == SALT_NO_PLACE);
     line[15] = '8';
     line[16] = '9';
     CHECK(salt_read_line(line, sizeof line).number == SALT_NO_WORD);
@@ -37,8 +40,8 @@ static void lines_read(void) {
 
 /* Lines that are written: a word, a refusal, and codes that stand for nothing. */
 static void lines_written(void) {
-    const SaltUnpacked said = {0, word}, refused = {SALT_NO_WORD, {0, 3, 5, 4, 0}};
-    const SaltUnpacked reserved[3] = {{0, {0, 3, 0, 0, 0}}, {0, {0, 0, 5, 0, 0}}, {0, {0, 0, 0, 4, 0}}};
+    const SaltUnpacked said = {0, word, 1, 9, SALT_NO_PLACE}, many = {0, word, SIZE_MAX, 0, 0}, refused = {SALT_NO_WORD, {0, 3, 5, 4, 0}, 2, 3, 4};
+    const SaltUnpacked reserved[3] = {{0, {0, 3, 0, 0, 0}, 0, 0, 0}, {0, {0, 0, 5, 0, 0}, 0, 0, 0}, {0, {0, 0, 0, 4, 0}, 0, 0, 0}};
     Lent out = lend(SALT_LINE_ROOM, 1);
     for (size_t i = 0; i < 3; i++) {
         SaltCounted answer = salt_put_line(1, reserved[i], out.at, out.length);
@@ -46,8 +49,9 @@ static void lines_written(void) {
         CHECK(salt_put_line(1, reserved[i], out.at, out.length - 1).number == SALT_OUTPUT_SHORT);
     }
     CHECK(begins_with(&out, salt_put_line(7, refused, out.at, out.length), "7 refused 4\n"));
-    CHECK(begins_with(&out, salt_put_heading(out.at, out.length), "line frame points rate guard cell\n"));
-    CHECK(begins_with(&out, salt_put_line(UINT64_MAX, said, out.at, out.length), "18446744073709551615 2 16 5/6 1/8 ab\n"));
+    CHECK(begins_with(&out, salt_put_line(7, many, out.at, out.length), "7 2 16 5/6 1/8 ab 2\n"));
+    CHECK(begins_with(&out, salt_put_line(UINT64_MAX, said, out.at, out.length), "18446744073709551615 2 16 5/6 1/8 ab 1\n"));
+    CHECK(begins_with(&out, salt_put_heading(out.at, out.length), "line frame points rate guard cell mended\n"));
     give_back(&out);
 }
 
@@ -73,7 +77,7 @@ static void in_parts(size_t size) {
     }
     CHECK(reader.lines == 3 && reader.refused == 2 && reader.count == 2);
     SaltCounted closed = salt_reader_close(reader, text + count, SALT_CLOSE_ROOM);
-    static const char whole[] = "1 2 16 5/6 1/8 ab\n2 refused 9\n3 refused 9\n4 refused 9\nread 4 refused 3\n";
+    static const char whole[] = "1 2 16 5/6 1/8 ab 0\n2 refused 9\n3 refused 9\n4 refused 9\nread 4 refused 3\n";
     CHECK(closed.number == SALT_ACCEPTED && count + closed.count == strlen(whole) && memcmp(text, whole, strlen(whole)) == 0);
 }
 

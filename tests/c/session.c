@@ -76,7 +76,7 @@ static void full(Lent *journal) {
     float out[SALT_DATA_FLOATS] = {0};
     SaltSession session = before[SALT_TPS_WORD_BITS];
     SaltUnpacked read = salt_session_word(session);
-    CHECK(read.number == SALT_ACCEPTED && memcmp(&read.word, &word, sizeof word) == 0);
+    CHECK(read.number == SALT_ACCEPTED && memcmp(&read.word, &word, sizeof word) == 0 && read.mended == 0 && read.first == SALT_NO_PLACE);
     SaltSessionFed refused = salt_session_feed(session, symbols[0], SALT_SYMBOL_FLOATS, out, SALT_DATA_FLOATS, journal->at, journal->length);
     CHECK(refused.number == SALT_FULL && refused.bit == 0 && same_session(&refused.session, &session) && unchanged_from(journal, 0));
     CHECK(salt_session_feed(session, symbols[0], SALT_SYMBOL_FLOATS, out, SALT_DATA_FLOATS, journal->at, 0).number == SALT_OUTPUT_SHORT);

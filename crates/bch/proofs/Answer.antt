@@ -13,15 +13,17 @@ use types.Run.{OneOf, miss}
 use borrow.Author.Tests.{lt-ltb, le-ltb, eq-eqb, ne-eqb}
 use Rattle.ground.specs.Refusal.{ACCEPTED, LENGTH, NOT-A-BIT, OUTPUT-SHORT, NO-WORD}
 use Rattle.ground.specs.Answer.{counted, kept, written}
-use Rattle.ground.specs.declared.Counted.{Counted}
 use Rattle.ground.specs.declared.Counted.the-variants.{Count, Refused}
+use Rattle.bch.specs.declared.Mended.{Mended}
+use Rattle.bch.specs.declared.Decoded.{Decoded}
+use Rattle.bch.specs.declared.Decoded.the-variants as decode
 use Rattle.ground.specs.Bits.{Bits, areBits}
 use Rattle.bch.specs.Code.{encode, Codeword, distance}
-use Rattle.bch.specs.Promise.{lentNo, encodeNo, encodeAnswer, encodeLeaves, Answers, Decodes}
-use Rattle.bch.specs.Search.{Rising, mended, Changes}
+use Rattle.bch.specs.Promise.{lentNo, encodeNo, encodeAnswer, encodeLeaves, mendedAt, Answers, Decodes}
+use Rattle.bch.specs.Search.{Rising, mended, named, Changes}
 use Rattle.bch.specs.declared.search.Found.{Found}
 use Rattle.bch.specs.declared.search.Found.the-variants.{Clean, One, NoWord, Two}
-use Rattle.bch.proofs.Mended.{named, mended-length, mended-places}
+use Rattle.bch.proofs.Flipped.{mended-length, mended-places}
 use Rattle.bch.proofs.search.Found.{the-type}
 
 -- ---- the number of a call, by its slices
@@ -61,15 +63,15 @@ pub not-no-word : (r : Found) → OneOf (0 ∷ 1 ∷ 2 ∷ []) (tagOf the-type r
 not-no-word r h e = miss (0 ∷ 1 ∷ 2 ∷ []) 3 tt (subst (λ (x : Found). OneOf (0 ∷ 1 ∷ 2 ∷ []) (tagOf the-type x)) e h)
 
 module _ (w o : List ℕ) where
-  by-number : (n : ℕ) (r : Counted) (a : List ℕ) → lentNo 67 53 w o ≡ n → Answers n w o r a → Decodes w o r a
+  by-number : (n : ℕ) (r : Decoded) (a : List ℕ) → lentNo 67 53 w o ≡ n → Answers n w o r a → Decodes w o r a
   by-number n r a e h = subst (λ (k : ℕ). Answers k w o r a) (sym e) h
 
-  pub decode-refused : (k : ℕ) → lentNo 67 53 w o ≡ suc k → Decodes w o (Refused (suc k)) o
-  decode-refused k e = by-number (suc k) (Refused (suc k)) o e (record { answers = refl; leaves = refl })
+  pub decode-refused : (k : ℕ) → lentNo 67 53 w o ≡ suc k → Decodes w o (decode.Refused (suc k)) o
+  decode-refused k e = by-number (suc k) (decode.Refused (suc k)) o e (record { answers = refl; leaves = refl })
 
-  pub decode-none : (f : Found) → lentNo 67 53 w o ≡ 0 → Changes w f → f ≡ NoWord → Decodes w o (Refused NO-WORD) o
+  pub decode-none : (f : Found) → lentNo 67 53 w o ≡ 0 → Changes w f → f ≡ NoWord → Decodes w o (decode.Refused NO-WORD) o
   decode-none f e h g =
-      by-number 0 (Refused NO-WORD) o e
+      by-number 0 (decode.Refused NO-WORD) o e
       (inr (subst (λ (x : Found). Changes w x) g h, record { answers = refl; leaves = refl }))
 
   named-few : (f : Found) → length (named f) ≤ 2
@@ -79,24 +81,31 @@ module _ (w o : List ℕ) where
   named-few NoWord = omega arith
 
   -- an answer that names places makes a codeword, within distance two
-  changed-word : (f : Found) → Changes w f → (f ≡ NoWord → ⊥) → Codeword (mended w f) × Rising 0 (named f)
-  changed-word Clean h n = (h, tt)
-  changed-word (One i) h n = (h .1, (omega arith, h .0, tt))
-  changed-word (Two i j) h n = (h .2, (omega arith, omega (arith, h .0, h .1), (h .0, h .1, tt)))
+  changed-word : (f : Found) → Changes w f → (f ≡ NoWord → ⊥) → Codeword (mended w f)
+  changed-word Clean h n = h
+  changed-word (One i) h n = h .1
+  changed-word (Two i j) h n = h .2
   changed-word NoWord h n = absurd (n refl)
 
-  pub decode-found : (f : Found) (a : List ℕ) → lentNo 67 53 w o ≡ 0 → Bits w → length w ≡ 67 → Changes w f → (f ≡ NoWord → ⊥)
-      → a ≡ take 53 (mended w f) → Decodes w o (Count 53) (a ++ drop 53 o)
-  decode-found f a e hb hl h n ea =
-      let c = changed-word f h n in
-      let d : distance (mended w f) w ≡ length (named f) = ap length (mended-places w f hb hl (c .1)) in
+  -- and the places rise
+  pub named-rise : (f : Found) → Changes w f → Rising 0 (named f)
+  named-rise Clean h = tt
+  named-rise (One i) h = (omega arith, h .0, tt)
+  named-rise (Two i j) h = (omega arith, omega (arith, h .0, h .1), (h .0, h .1, tt))
+  named-rise NoWord h = tt
+
+  pub decode-found : (f : Found) (m : Mended) (a : List ℕ) → lentNo 67 53 w o ≡ 0 → Bits w → length w ≡ 67 → Changes w f
+      → (f ≡ NoWord → ⊥) → m ≡ mendedAt (named f) → a ≡ take 53 (mended w f) → Decodes w o (decode.Information m) (a ++ drop 53 o)
+  decode-found f m a e hb hl h n em ea =
+      let p = mended-places w f hb hl (named-rise f h) in
+      let d : distance (mended w f) w ≡ length (named f) = ap length p in
       let s = named-few f in
       let l : length (take 53 (mended w f)) ≡ 53 = length-take-le 53 (mended w f) (omega (arith, mended-length w f)) in
-      by-number 0 (Count 53) (a ++ drop 53 o) e
+      by-number 0 (decode.Information m) (a ++ drop 53 o) e
       (inl record {
         word = mended w f;
-        codeword = c .0;
+        codeword = changed-word f h n;
         near = omega arith;
-        answers = refl;
+        answers = ap decode.Information (em ∙ ap mendedAt (sym p));
         leaves = ap₂ (λ (x : List ℕ) (k : ℕ). x ++ drop k o) ea (sym l);
       })

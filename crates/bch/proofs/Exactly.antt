@@ -4,7 +4,7 @@ use mathlib.Core.Path.{_≡_, refl, ap, _∙_}
 use mathlib.Core.Logic.{_↔_}
 use mathlib.Core.Bool.{true, not, false≢true}
 use mathlib.Core.List.{List, [], _∷_}
-use Prim.Native.Nat.{ℕ, _<_, _≤_}
+use Prim.Native.Nat.{ℕ, zero, suc, _<_, _≤_}
 use lib.Dec.{T, eqb}
 use lib.ListN.{length}
 use Rattle.ground.specs.Refusal.{LENGTH, NOT-A-BIT, OUTPUT-SHORT, NO-WORD, Test, _gives_, firstOf}
@@ -14,8 +14,9 @@ use Rattle.ground.specs.declared.Counted.{Counted}
 use Rattle.ground.proofs.Answers.{counted-says-number}
 use Rattle.ground.proofs.Exactly.{Decides, lacks, less-decides, equal-decides, bits-decide, not-decides, by-test, given-here, given-behind, said-exactly}
 use Rattle.bch.specs.Code.{Lone}
-use Rattle.bch.specs.NearCodeword.{Near, found, none, nearOf, isNone}
-use Rattle.bch.specs.Promise.{encodeNo, encodeAnswer, Decodes, decodeNo}
+use Rattle.bch.specs.NearCodeword.{Near, found, none, nearOf, isNone, placesTo}
+use Rattle.bch.specs.declared.Decoded.{Decoded}
+use Rattle.bch.specs.Promise.{encodeNo, encodeAnswer, decodedNumber, decoded, Decodes, decodeNo}
 use Rattle.bch.proofs.NearCodeword.{near-none, lone-none}
 use Rattle.bch.proofs.Determined.{decode-is}
 
@@ -78,18 +79,22 @@ module _ (info o : List ℕ) (r : Counted) (h : r ≡ encodeAnswer info o) where
   pub encode-output-short-exactly : (numberOf r ≡ OUTPUT-SHORT) ↔ ((length info ≡ 53) × (Bits info × (length o < 67)))
   encode-output-short-exactly = said-exactly encode-number (output-short-given 53 67 info o [] tt)
 
-module _ (w o a : List ℕ) (r : Counted) (h : Decodes w o r a) where
-  decode-number : numberOf r ≡ decodeNo w o
-  decode-number = ap numberOf (decode-is w o r a h .0) ∙ counted-says-number (decodeNo w o) 53
+pub decoded-says-number : (no : ℕ) (ps : List ℕ) → decodedNumber (decoded no ps) ≡ no
+decoded-says-number zero ps = refl
+decoded-says-number (suc k) ps = refl
 
-  pub decode-length-exactly : (numberOf r ≡ LENGTH) ↔ (length w ≡ 67 → ⊥)
+module _ (w o a : List ℕ) (r : Decoded) (h : Decodes w o r a) where
+  decode-number : decodedNumber r ≡ decodeNo w o
+  decode-number = ap decodedNumber (decode-is w o r a h .0) ∙ decoded-says-number (decodeNo w o) (placesTo (nearOf w) w)
+
+  pub decode-length-exactly : (decodedNumber r ≡ LENGTH) ↔ (length w ≡ 67 → ⊥)
   decode-length-exactly = said-exactly decode-number (length-given 67 53 w o (isNone (nearOf w) gives NO-WORD ∷ []) tt)
 
-  pub decode-not-a-bit-exactly : (numberOf r ≡ NOT-A-BIT) ↔ ((length w ≡ 67) × (Bits w → ⊥))
+  pub decode-not-a-bit-exactly : (decodedNumber r ≡ NOT-A-BIT) ↔ ((length w ≡ 67) × (Bits w → ⊥))
   decode-not-a-bit-exactly = said-exactly decode-number (not-a-bit-given 67 53 w o (isNone (nearOf w) gives NO-WORD ∷ []) tt)
 
-  pub decode-output-short-exactly : (numberOf r ≡ OUTPUT-SHORT) ↔ ((length w ≡ 67) × (Bits w × (length o < 53)))
+  pub decode-output-short-exactly : (decodedNumber r ≡ OUTPUT-SHORT) ↔ ((length w ≡ 67) × (Bits w × (length o < 53)))
   decode-output-short-exactly = said-exactly decode-number (output-short-given 67 53 w o (isNone (nearOf w) gives NO-WORD ∷ []) tt)
 
-  pub decode-no-word-exactly : (numberOf r ≡ NO-WORD) ↔ ((length w ≡ 67) × (Bits w × ((53 ≤ length o) × Lone w)))
+  pub decode-no-word-exactly : (decodedNumber r ≡ NO-WORD) ↔ ((length w ≡ 67) × (Bits w × ((53 ≤ length o) × Lone w)))
   decode-no-word-exactly = said-exactly decode-number (no-word-given w o)

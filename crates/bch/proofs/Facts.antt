@@ -5,16 +5,15 @@ use Prim.Native.Nat.{ℕ, _≤_}
 use native.Mathlib.Omega.{arith}
 use lib.ListN.{length, replicate}
 use Rattle.ground.specs.Refusal.{NO-WORD}
-use Rattle.ground.specs.Answer.{counted}
-use Rattle.ground.specs.declared.Counted.{Counted}
 use Rattle.ground.specs.Bits.{Bits}
 use Rattle.ground.proofs.Bits.{zeros-bits, bits-append}
 use Rattle.bch.specs.Polynomial.{divisionStep}
 use Rattle.bch.specs.Code.{remainderOf, parity, Lone}
 use Rattle.bch.specs.Field.{timesX, syndrome1}
-use Rattle.bch.specs.Promise.{Decodes}
+use Rattle.bch.specs.Promise.{decoded, Decodes}
+use Rattle.bch.specs.declared.Decoded.{Decoded}
 use Rattle.bch.proofs.Pattern.{zero-syndrome-no-pattern}
-use Rattle.bch.proofs.Mended.{no-pattern-lone}
+use Rattle.bch.proofs.Flipped.{no-pattern-lone}
 use Rattle.bch.proofs.Determined.{refuses}
 
 -- (4) zero information has zero parity
@@ -46,5 +45,5 @@ pub three-lone : Lone three
 three-lone = no-pattern-lone three three-bits refl (λ ps i l e. zero-syndrome-no-pattern 0x89 three-syndrome1 (omega arith) ps i l (e ∙ three-remainder))
 
 -- (6) bits with only the degrees 7, 3 and 0 set are NO WORD
-pub three-no-word : (o a : List ℕ) (r : Counted) → 53 ≤ length o → Decodes three o r a → (r ≡ counted NO-WORD 53) × (a ≡ o)
+pub three-no-word : (o a : List ℕ) (r : Decoded) → 53 ≤ length o → Decodes three o r a → (r ≡ decoded NO-WORD []) × (a ≡ o)
 three-no-word o a r room h = refuses three o a r three-bits refl room h three-lone

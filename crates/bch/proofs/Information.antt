@@ -12,7 +12,7 @@ use Rattle.ground.proofs.Front.{front, front-next}
 use Rattle.bch.specs.Search.{flip, mended}
 use Rattle.bch.specs.declared.search.Found.{Found}
 use Rattle.bch.specs.declared.search.Found.the-variants.{One, Two}
-use Rattle.bch.proofs.Mended.{flip-length, flip-bits, take-flip}
+use Rattle.bch.proofs.Flipped.{flip-length, flip-bits, take-flip}
 
 -- ---- a copy
 

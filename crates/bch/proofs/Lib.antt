@@ -19,7 +19,7 @@ pub mod FoundPlaces
 pub mod Places
 pub mod Distance
 pub mod Codeword
-pub mod Mended
+pub mod Flipped
 pub mod Information
 pub mod NearCodeword
 pub mod Answer
@@ -27,3 +27,4 @@ pub mod Determined
 pub mod Exactly
 pub mod Facts
 pub mod ThreeWrong
+pub mod MendedPlaces

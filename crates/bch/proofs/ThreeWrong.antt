@@ -7,13 +7,13 @@ use Prim.Native.Nat.{ℕ, _≤_}
 use native.Mathlib.Omega.{arith}
 use lib.ListN.{length, replicate, getD}
 use Rattle.ground.specs.Refusal.{ACCEPTED}
-use Rattle.ground.specs.Answer.{counted, written}
-use Rattle.ground.specs.declared.Counted.{Counted}
+use Rattle.ground.specs.Answer.{written}
 use Rattle.ground.specs.Bits.{Bits}
 use Rattle.ground.proofs.Bits.{zeros-bits, bits-append}
 use Rattle.bch.specs.Polynomial.{divisionStep}
 use Rattle.bch.specs.Code.{encode, distance}
-use Rattle.bch.specs.Promise.{Decodes}
+use Rattle.bch.specs.Promise.{decoded, Decodes}
+use Rattle.bch.specs.declared.Decoded.{Decoded}
 use Rattle.bch.proofs.Determined.{corrects}
 
 -- the information that is sent, and another: places 42, 50 and 52 set
@@ -46,7 +46,8 @@ pub is-another : other ≡ sent → ⊥
 is-another e = let h : _≡_ {A = ℕ} 1 0 = ap (λ (l : List ℕ). getD l 42 0) e in omega arith
 
 -- what meets the decoder's promise accepts the received bits, and gives the other information
-pub three-wrong-read-as-another : (o a : List ℕ) (r : Counted) → 53 ≤ length o → Decodes received o r a
-    → (r ≡ counted ACCEPTED 53) × (a ≡ written other o)
+pub three-wrong-read-as-another : (o a : List ℕ) (r : Decoded) → 53 ≤ length o → Decodes received o r a
+    → (r ≡ decoded ACCEPTED (42 ∷ 66 ∷ [])) × (a ≡ written other o)
+unfolding divisionStep
 three-wrong-read-as-another o a r room h =
     corrects received o a r received-bits refl room h other other-bits refl (omega (arith, two-from-another))

@@ -5,7 +5,7 @@ use Prim.Native.Nat.{ℕ, zero, suc, _-_}
 use lib.Dec.{eqb}
 use lib.ListN.{length, take}
 use Rattle.ground.specs.Bits.{areBits}
-use Rattle.bch.specs.Code.{remainderOf}
+use Rattle.bch.specs.Code.{remainderOf, places}
 
 -- the bits w, and every list that differs from them in at most k places
 unfoldable pub neighbours : ℕ → List ℕ → List (List ℕ)
@@ -35,6 +35,11 @@ nearOf w = firstCodeword (neighbours 2 w)
 abbrev pub isNone : Near → Bool
 isNone (found c) = false
 isNone none = true
+
+-- the places at which the bits w differ from a codeword that was found
+abbrev pub placesTo : Near → List ℕ → List ℕ
+placesTo (found c) w = places 0 c w
+placesTo none w = []
 
 -- the 53 information bits of a codeword that was found
 abbrev pub informationIn : Near → List ℕ

@@ -88,6 +88,13 @@ mended w (One i) = flip w i
 mended w (Two i j) = flip (flip w i) j
 mended w NoWord = w
 
+-- the places that an answer of the search names
+abbrev pub named : Found → List ℕ
+named Clean = []
+named (One i) = i ∷ []
+named (Two i j) = i ∷ j ∷ []
+named NoWord = []
+
 -- what is promised of the bits: at most two rising places below 67 whose change makes a codeword of w, or there is
 -- none within distance two
 abbrev pub Changes : List ℕ → Found → Type 0

@@ -4,8 +4,8 @@ ghost use Prim.Native.Nat.{_≤_};
 ghost use lib.ListN.{length, take};
 ghost use Rattle.ground.specs.Bits.{Bits};
 ghost use Rattle.bch.specs.Code.{encode};
-ghost use Rattle.bch.specs.Search.{flip, mended};
-ghost use Rattle.bch.specs.Promise.{encodeAnswer, encodeLeaves, Decodes};
+ghost use Rattle.bch.specs.Search.{flip, mended, named};
+ghost use Rattle.bch.specs.Promise.{encodeAnswer, encodeLeaves, mendedAt, Decodes};
 use ground::Counted;
 use search::Found;
 
@@ -13,6 +13,22 @@ mod field;
 pub mod inner;
 mod remainder;
 mod search;
+
+// A place that stands for none.
+pub const NO_PLACE: usize = 255;
+
+// The bits of a codeword that were changed: how many, 0 to 2, and their places, 0 to 66 and rising, or NO_PLACE.
+pub struct Mended {
+    pub count: usize,
+    pub first: usize,
+    pub second: usize,
+}
+
+// The bits that were changed where the information was written, or the refusal's number.
+pub enum Decoded {
+    Information(Mended),
+    Refused(u8),
+}
 
 // Copies the first 53 bits of a slice, four at a time.
 fn copy_information(bits: &[u8], out: &mut [u8])
@@ -89,24 +105,52 @@ fn put_information(code: &[u8], found: Found, out: &mut [u8])
     }
 }
 
-// The 53 information bits of the codeword within distance two of 67 bits, written to the lent output (EN 300 744,
-// 4.6.2.11).
-pub fn tps_bch_decode(code: &[u8], out: &mut [u8]) -> Counted
+// The places that the search named.
+fn mended_at(found: Found) -> Mended
+    ensures { λ r. ⌜ r ≡ mendedAt (named found) ⌝ }
+{
+    match found {
+        Found::Clean => Mended {
+            count: 0,
+            first: NO_PLACE,
+            second: NO_PLACE,
+        },
+        Found::One(i) => Mended {
+            count: 1,
+            first: i,
+            second: NO_PLACE,
+        },
+        Found::Two(i, j) => Mended {
+            count: 2,
+            first: i,
+            second: j,
+        },
+        Found::NoWord => Mended {
+            count: 0,
+            first: NO_PLACE,
+            second: NO_PLACE,
+        },
+    }
+}
+
+// The 53 information bits of the codeword within distance two of 67 bits, written to the lent output, and the bits
+// that were changed (EN 300 744, 4.6.2.11).
+pub fn tps_bch_decode(code: &[u8], out: &mut [u8]) -> Decoded
     ensures { λ r. ⌜ Decodes (now (code .entry)) (now (out .entry)) r (now (out .exit)) ⌝ }
 {
     if code.len() != 67 {
-        return Counted::Refused(ground::LENGTH);
+        return Decoded::Refused(ground::LENGTH);
     }
     if !ground::inner::all_bits(code) {
-        return Counted::Refused(ground::NOT_A_BIT);
+        return Decoded::Refused(ground::NOT_A_BIT);
     }
     if out.len() < 53 {
-        return Counted::Refused(ground::OUTPUT_SHORT);
+        return Decoded::Refused(ground::OUTPUT_SHORT);
     }
     let found = search::changes(code);
     if let Found::NoWord = found {
-        return Counted::Refused(ground::NO_WORD);
+        return Decoded::Refused(ground::NO_WORD);
     }
     put_information(code, found, &mut out[..53]);
-    Counted::Count(53)
+    Decoded::Information(mended_at(found))
 }

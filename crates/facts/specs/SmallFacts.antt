@@ -6,15 +6,14 @@ use Prim.Native.Nat.{ℕ, _≤_}
 use lib.IntN.{ℤ, pos, negsuc}
 use lib.ListN.{length, getD, replicate}
 use Rattle.ground.specs.Refusal.{NO-WORD}
-use Rattle.ground.specs.Answer.{counted}
-use Rattle.ground.specs.declared.Counted.{Counted}
 use Rattle.dispersal.specs.Register.{start, whitened}
 use Rattle.carriers.specs.Mode.{mode2k}
 use Rattle.carriers.specs.Count.{binOf}
 use Rattle.carriers.specs.Sequence.{wkFrom}
 use Rattle.carriers.specs.Carriers.{scattered}
 use Rattle.bch.specs.Code.{parity}
-use Rattle.bch.specs.Promise.{Decodes}
+use Rattle.bch.specs.Promise.{decoded, Decodes}
+use Rattle.bch.specs.declared.Decoded.{Decoded}
 use Rattle.gray.specs.Levels.{orderOf, levels}
 use Rattle.gray.specs.Mapping.{index}
 use Rattle.ts.specs.Packets.{packetized}
@@ -43,8 +42,8 @@ pub record SmallFacts : Type 0 where
   pub s53-parity : parity (replicate 52 0 ++ 1 ∷ []) ≡ 0x0377
   -- (6) bits with only degrees 7, 3, 0 set are NO WORD, whatever stands in the lent output, and it stays
   pub three-are-no-word :
-      (before after : List ℕ) (answer : Counted) → 53 ≤ length before → Decodes three before answer after
-      → (answer ≡ counted NO-WORD 53) × (after ≡ before)
+      (before after : List ℕ) (answer : Decoded) → 53 ≤ length before → Decodes three before answer after
+      → (answer ≡ decoded NO-WORD []) × (after ≡ before)
   -- (7) bits 0010 are levels (1, 3)
   pub levels-of-four-bits : levelsOf (0 ∷ 0 ∷ 1 ∷ 0 ∷ []) ≡ pos 1 ∷ pos 3 ∷ []
   -- (8) bits 101001 are levels (-1, 5)

@@ -86,7 +86,7 @@ pub(crate) fn answer(
         7 => constellation::demap(number, input, room),
         8 => constellation::soft(number, input, room),
         9 => bch::tps_bch_encode(input, room),
-        10 => bch::tps_bch_decode(input, room),
+        10 => words::decode(input, room),
         11 => words::pack(input, room),
         12 => words::unpack(input, room),
         13 => signals::send(input, room),

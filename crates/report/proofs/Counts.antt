@@ -40,7 +40,7 @@ rest-text-append n m a b =
 -- ---- where no count starts again
 
 one-refusal : (a : Unpacked) → refusals a ≤ 1
-one-refusal (Word w) = omega arith
+one-refusal (Word w m) = omega arith
 one-refusal (Refused k) = omega arith
 
 rest-numbered : (n m : ℕ) (r : List Unpacked) → n + length r < 2 ^ 64 → m + length r < 2 ^ 64

@@ -2,6 +2,7 @@ pub mod Texts
 pub mod Decimal
 pub mod Digits
 pub mod LineAnswers
+pub mod MendedColumn
 pub mod OpenLine
 pub mod Lines
 pub mod LineEnds

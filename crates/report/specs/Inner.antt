@@ -14,7 +14,7 @@ use Rattle.report.specs.declared.stream.PartEnd.{PartEnd}
 use Rattle.report.specs.Characters.{newline, space}
 use Rattle.report.specs.Reading.{refusals}
 use Rattle.report.specs.OpenLine.{openAnswer}
-use Rattle.report.specs.Text.{cellText, pointsText, rateText, guardText, lineText}
+use Rattle.report.specs.Text.{cellText, mendedText, pointsText, rateText, guardText, lineText}
 use Rattle.report.specs.Stream.{plus, feedReader, feedText}
 use Rattle.report.specs.Calls.{partRoom, lineRoom}
 
@@ -28,9 +28,9 @@ abbrev pub columnsText : ConstellationOrder → PunctureRate → GuardInterval �
 columnsText constellation rate guard =
     space ∷ (pointsText constellation ++ (space ∷ (rateText rate ++ (space ∷ guardText guard))))
 
--- and the last, with the newline
-abbrev pub cellColumn : ℕ → List ℕ
-cellColumn cell = space ∷ (cellText cell ++ (newline ∷ []))
+-- and the last two, with the newline
+abbrev pub lastColumns : ℕ → ℕ → List ℕ
+lastColumns cell mended = space ∷ (cellText cell ++ (space ∷ (mendedText mended ++ (newline ∷ []))))
 
 -- the end of a line
 pub record Ends (l : OpenLine) (n m : ℕ) (out : List ℕ) (at : ℕ) (r : Ended) (out′ : List ℕ) : Type 0 where

@@ -39,5 +39,5 @@ readAnswer l = cond (eqb (length l) 17 && areDigits l) (unpackAnswer (bitsOf l))
 
 -- how many refused lines an answer is
 abbrev pub refusals : Unpacked → ℕ
-refusals (Word w) = 0
+refusals (Word w m) = 0
 refusals (Refused k) = 1

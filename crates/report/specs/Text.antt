@@ -1,4 +1,4 @@
--- Document 01, 'Report program': the text of a line, of the heading and of the closing line.
+-- Document 01, 'Report program', and document 02, E1: the text of a line, of the heading and of the closing line.
 use mathlib.Core.Bool.{cond}
 use mathlib.Core.List.{List, [], _∷_, _++_}
 use Prim.Native.Nat.{ℕ, zero, suc, _+_, _-_, _/_, _%_}
@@ -49,19 +49,25 @@ guardText «G1_16» = characters "1/16"
 guardText «G1_8» = characters "1/8"
 guardText «G1_4» = characters "1/4"
 
+-- how many bits were mended; a count above 2, which no call answers, is written as 2
+unfoldable pub mendedText : ℕ → List ℕ
+mendedText zero = characters "0"
+mendedText (suc zero) = characters "1"
+mendedText (suc (suc n)) = characters "2"
+
 -- columns with a space between them, and a newline behind the last
 abbrev pub row : List (List ℕ) → List ℕ
 row [] = newline ∷ []
 row (t ∷ []) = t ++ (newline ∷ [])
 row (t ∷ u ∷ ts) = t ++ (space ∷ row (u ∷ ts))
 
--- `line frame points rate guard cell`
+-- `line frame points rate guard cell mended`
 unfoldable pub heading : List ℕ
-heading = characters "line frame points rate guard cell\n"
+heading = characters "line frame points rate guard cell mended\n"
 
 -- the line of line n and its answer: the columns of the heading, or the refusal's number
 unfoldable pub lineText : ℕ → Unpacked → List ℕ
-lineText n (Word w) =
+lineText n (Word w m) =
     row
     (decimal n
     ∷ decimal (w .«frame_number»)
@@ -69,6 +75,7 @@ lineText n (Word w) =
     ∷ rateText (w .«code_rate_hp»)
     ∷ guardText (w .guard)
     ∷ cellText (w .«cell_id»)
+    ∷ mendedText (m .count)
     ∷ [])
 lineText n (Refused k) = row (decimal n ∷ characters "refused" ∷ decimal k ∷ [])
 

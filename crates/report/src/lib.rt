@@ -15,7 +15,7 @@ mod stream;
 mod text;
 
 // The heading's length in bytes.
-const HEADING_LEN: usize = 34;
+const HEADING_LEN: usize = 41;
 // Room in bytes for every line of the report.
 const LINE_ROOM: usize = 60;
 
@@ -36,7 +36,7 @@ pub struct Fed {
     pub reader: Reader,
 }
 
-// What a line says: the word of its 17 digits, or the refusal.
+// What a line says: the word of its 17 digits and the bits that were changed, or the refusal.
 pub fn read_line(line: &[u8]) -> Unpacked
     ensures { λ r. ⌜ r ≡ readAnswer (now (line .entry)) ⌝ }
 {
@@ -58,10 +58,10 @@ pub fn put_heading(out: &mut [u8]) -> Counted
     if out.len() < HEADING_LEN {
         return Counted::Refused(ground::OUTPUT_SHORT);
     }
-    Counted::Count(text::put(out, 0, b"line frame points rate guard cell\n"))
+    Counted::Count(text::put(out, 0, b"line frame points rate guard cell mended\n"))
 }
 
-// Writes the line of the report for a line's number and its answer.
+// Writes the line of the report for a line's number and its answer; a count of changed bits above 2 is written as 2.
 pub fn put_line(number: u64, answer: Unpacked, out: &mut [u8]) -> Counted
     ensures answer { λ r. ⌜ r ≡ lineAnswer number answer (now (out .entry)) ⌝ }
     ensures output { λ _. ⌜ now (out .exit) ≡ lineLeaves number answer (now (out .entry)) ⌝ }

@@ -41,7 +41,7 @@ fn refusals_of(answer: Unpacked) -> u64
     ensures { λ r. ⌜ r ≡ refusals answer ⌝ }
 {
     match answer {
-        Unpacked::Word(_) => 0,
+        Unpacked::Word(_, _) => 0,
         Unpacked::Refused(_) => 1,
     }
 }

@@ -1,15 +1,17 @@
 // The texts of the report, each written into the lent output from a place on; the answer is the place behind it.
 ghost use mathlib.Core.Path.{_≡_};
-ghost use mathlib.Core.List.{_∷_};
+ghost use mathlib.Core.List.{[], _∷_};
 ghost use Prim.Native.Nat.{_+_, _≤_, _<_};
 ghost use lib.ListN.{length, take};
 ghost use Rattle.tps.specs.declared.word.Unpacked.the-variants.{Word, Refused};
 ghost use Rattle.report.specs.Characters.{space};
-ghost use Rattle.report.specs.Text.{decimal, hexadecimal, pointsText, rateText, guardText, lineText, closing};
+ghost use Rattle.report.specs.Text.{decimal, hexadecimal, pointsText, rateText, guardText, mendedText};
+ghost use Rattle.report.specs.Text.{lineText, closing};
 ghost use Rattle.report.specs.Calls.{lineRoom};
-ghost use Rattle.report.specs.Inner.{Put, columnsText, cellColumn};
+ghost use Rattle.report.specs.Inner.{Put, columnsText, lastColumns};
 use ground::ConstellationOrder;
 use tps::GuardInterval;
+use tps::Mended;
 use tps::PunctureRate;
 use tps::TpsWord;
 use tps::Unpacked;
@@ -44,7 +46,7 @@ fn put_decimal(out: &mut [u8], at: usize, number: u64) -> usize
 // A space and the column of a constellation.
 fn points_column(constellation: ConstellationOrder) -> Column
     ensures text { λ r. ⌜ take (r .1) (r .0) ≡ space ∷ pointsText constellation ⌝ }
-    ensures room { λ r. ⌜ r .1 ≤ 5 ⌝ }
+    ensures room { λ r. ⌜ r .1 ≤ 3 ⌝ }
 {
     match constellation {
         ConstellationOrder::Qpsk => Column(*b" 4   ", 2),
@@ -85,7 +87,7 @@ fn put_column(out: &mut [u8], at: usize, column: Column) -> usize
     requires small { ⌜ column .1 ≤ 5 ⌝ }
     requires room { ⌜ at + 5 ≤ length (now out) ⌝ }
     ensures text { λ r. ⌜ Put (now (out .entry)) at (take (column .1) (column .0)) (now (out .exit)) r ⌝ }
-    ensures room { λ r. ⌜ r ≤ at + 5 ⌝ }
+    ensures room { λ r. ⌜ r ≤ at + column .1 ⌝ }
 {
     let characters = column.0;
     let length = column.1;
@@ -102,7 +104,7 @@ fn put_columns(
 ) -> usize
     requires { ⌜ at + 15 ≤ length (now out) ⌝ }
     ensures text { λ r. ⌜ Put (now (out .entry)) at (columnsText constellation rate guard) (now (out .exit)) r ⌝ }
-    ensures room { λ r. ⌜ r ≤ at + 15 ⌝ }
+    ensures room { λ r. ⌜ r ≤ at + 13 ⌝ }
 {
     let points_end = put_column(out, at, points_column(constellation));
     let rate_end = put_column(out, points_end, rate_column(rate));
@@ -120,21 +122,33 @@ fn hexadecimal_digit(digit: u8) -> u8
     b'a' + (digit - 10)
 }
 
-// Writes a space, the column of a cell id, and a newline.
-fn put_cell(out: &mut [u8], at: usize, cell_id: u8) -> usize
-    requires { ⌜ at + 4 ≤ length (now out) ⌝ }
-    ensures text { λ r. ⌜ Put (now (out .entry)) at (cellColumn «cell_id») (now (out .exit)) r ⌝ }
-    ensures room { λ r. ⌜ r ≤ at + 4 ⌝ }
+// The digit of a count of mended bits.
+fn mended_digit(count: usize) -> u8
+    ensures { λ r. ⌜ r ∷ [] ≡ mendedText count ⌝ }
+{
+    match count {
+        0 => b'0',
+        1 => b'1',
+        _ => b'2',
+    }
+}
+
+// Writes the columns of a cell id and of a count of mended bits, a space before each, and a newline.
+fn put_cell_and_mended(out: &mut [u8], at: usize, cell_id: u8, count: usize) -> usize
+    requires { ⌜ at + 6 ≤ length (now out) ⌝ }
+    ensures text { λ r. ⌜ Put (now (out .entry)) at (lastColumns «cell_id» count) (now (out .exit)) r ⌝ }
+    ensures room { λ r. ⌜ r ≤ at + 6 ⌝ }
 {
     let high = hexadecimal_digit(cell_id / 16);
     let low = hexadecimal_digit(cell_id % 16);
-    put(out, at, &[b' ', high, low, b'\n'])
+    let digit = mended_digit(count);
+    put(out, at, &[b' ', high, low, b' ', digit, b'\n'])
 }
 
 // Writes the line of a word.
-fn put_word(out: &mut [u8], at: usize, number: u64, word: TpsWord) -> usize
+fn put_word(out: &mut [u8], at: usize, number: u64, word: TpsWord, mended: Mended) -> usize
     requires { ⌜ at + lineRoom ≤ length (now out) ⌝ }
-    ensures text { λ r. ⌜ Put (now (out .entry)) at (lineText number (Word word)) (now (out .exit)) r ⌝ }
+    ensures text { λ r. ⌜ Put (now (out .entry)) at (lineText number (Word word mended)) (now (out .exit)) r ⌝ }
     ensures room { λ r. ⌜ r ≤ at + lineRoom ⌝ }
 {
     let number_end = put_decimal(out, at, number);
@@ -144,7 +158,7 @@ fn put_word(out: &mut [u8], at: usize, number: u64, word: TpsWord) -> usize
     let rate = word.code_rate_hp;
     let guard = word.guard;
     let guard_end = put_columns(out, frame_end, constellation, rate, guard);
-    put_cell(out, guard_end, word.cell_id)
+    put_cell_and_mended(out, guard_end, word.cell_id, mended.count)
 }
 
 // Writes the line of a refusal.
@@ -166,7 +180,7 @@ pub(crate) fn put_answer(out: &mut [u8], at: usize, number: u64, answer: Unpacke
     ensures room { λ r. ⌜ r ≤ at + lineRoom ⌝ }
 {
     match answer {
-        Unpacked::Word(word) => put_word(out, at, number, word),
+        Unpacked::Word(word, mended) => put_word(out, at, number, word, mended),
         Unpacked::Refused(refusal) => put_refused(out, at, number, refusal),
     }
 }

@@ -10,23 +10,24 @@ use Rattle.ground.specs.Answer.{counted, kept, written}
 use Rattle.ground.specs.declared.Counted.{Counted}
 use Rattle.tps.specs.declared.word.Unpacked.{Unpacked}
 use Rattle.tps.specs.declared.word.Unpacked.the-variants.{Refused}
+use Rattle.tps.specs.Packing.{unpackedBy}
 use Rattle.report.specs.declared.Fed.{Fed}
 use Rattle.report.specs.Text.{lineText}
 use Rattle.report.specs.Calls.{lineRoom}
 use Rattle.saltkernel.specs.Numbers.{Says}
-use Rattle.saltkernel.specs.Words.{wordIn, refused, codesNo}
+use Rattle.saltkernel.specs.Words.{wordIn, isReserved, codesNo, mendedOf}
 use Rattle.saltkernel.specs.declared.words.SaltUnpacked.{SaltUnpacked}
 use Rattle.saltkernel.specs.declared.reports.SaltReaderFed.{SaltReaderFed}
 
 -- ---- a line
 
--- an answer of C's: the word of its codes where the number is 0, else the refusal
+-- an answer of C's: the word of its codes, with its mended bits, where the number is 0, else the refusal
 abbrev pub answerIn : SaltUnpacked → Unpacked
-answerIn a = cond (eqb (a .number) 0) (wordIn (a .word)) (Refused (a .number))
+answerIn a = cond (eqb (a .number) 0) (unpackedBy (wordIn (a .word)) (mendedOf a)) (Refused (a .number))
 
 -- its word has a code that stands for nothing
 abbrev pub reservedIn : SaltUnpacked → Bool
-reservedIn a = eqb (a .number) 0 && refused (wordIn (a .word))
+reservedIn a = eqb (a .number) 0 && isReserved (wordIn (a .word))
 
 abbrev pub lineNo : SaltUnpacked → List ℕ → ℕ
 lineNo a out = codesNo lineRoom (reservedIn a) out

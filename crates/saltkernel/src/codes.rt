@@ -2,9 +2,44 @@
 ghost use mathlib.Core.Path.{_≡_};
 ghost use Rattle.bch.specs.Promise.{encodeAnswer, encodeLeaves};
 ghost use Rattle.saltkernel.specs.Numbers.{Says};
-ghost use Rattle.saltkernel.specs.Codes.{DecodesAs};
+ghost use Rattle.saltkernel.specs.Codes.{SaysDecoded, DecodesAs};
 use super::SaltCounted;
 use super::numbers_of;
+use super::sizes::NO_PLACE;
+use super::sizes::TPS_INFORMATION_BITS;
+use bch::Decoded;
+
+// A count of information bits and the bits that were changed, or a refusal's number, the counts 0 and no place.
+#[repr(C)]
+pub struct SaltDecoded {
+    pub number: u8,
+    pub count: usize,
+    pub mended: usize, // how many of the 67 bits were changed, 0 to 2
+    pub first: usize, // their places, 0 to 66 and rising, or SALT_NO_PLACE
+    pub second: usize,
+}
+
+// An answer of the decoder as numbers.
+fn decoded_numbers_of(answer: Decoded) -> SaltDecoded
+    ensures { λ r. ⌜ SaysDecoded r answer ⌝ }
+{
+    match answer {
+        Decoded::Information(mended) => SaltDecoded {
+            number: 0,
+            count: TPS_INFORMATION_BITS,
+            mended: mended.count,
+            first: mended.first,
+            second: mended.second,
+        },
+        Decoded::Refused(number) => SaltDecoded {
+            number,
+            count: 0,
+            mended: 0,
+            first: NO_PLACE,
+            second: NO_PLACE,
+        },
+    }
+}
 
 // The codeword of 53 information bits: these, then 14 bits of parity. Answers 67.
 // Refusals: 1 LENGTH (not 53), 2 NOT A BIT, 3 OUTPUT SHORT.
@@ -16,11 +51,11 @@ pub extern "C" fn salt_tps_bch_encode(info: &[u8], out: &mut [u8]) -> SaltCounte
     numbers_of(bch::tps_bch_encode(info, out))
 }
 
-// The 53 information bits of the codeword within distance two of 67 bits. Answers 53.
+// The 53 information bits of the codeword within distance two of 67 bits. Answers 53, and the bits that were changed.
 // Refusals: 1 LENGTH (not 67), 2 NOT A BIT, 3 OUTPUT SHORT, 4 NO WORD.
 #[no_mangle]
-pub extern "C" fn salt_tps_bch_decode(code: &[u8], out: &mut [u8]) -> SaltCounted
+pub extern "C" fn salt_tps_bch_decode(code: &[u8], out: &mut [u8]) -> SaltDecoded
     ensures { λ r. ⌜ DecodesAs (now (code .entry)) (now (out .entry)) r (now (out .exit)) ⌝ }
 {
-    numbers_of(bch::tps_bch_decode(code, out))
+    decoded_numbers_of(bch::tps_bch_decode(code, out))
 }

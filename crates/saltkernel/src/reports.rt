@@ -16,7 +16,9 @@ use super::words::SaltUnpacked;
 use super::words::unpacked_numbers_of;
 use super::words::word_of;
 use report::Reader;
+use tps::Mended;
 use tps::Unpacked;
+use tps::inner::WordRead;
 
 // The bytes written or the refusal, and the reader behind the part or, refused, as it went in.
 #[repr(C)]
@@ -33,7 +35,7 @@ fn reserved_answer(answer: SaltUnpacked) -> bool
         return false;
     }
     let word = answer.word;
-    let Unpacked::Word(_) = word_of(word) else {
+    let WordRead::Known(_) = word_of(word) else {
         return true;
     };
     false
@@ -43,11 +45,19 @@ fn reserved_answer(answer: SaltUnpacked) -> bool
 fn answer_of(answer: SaltUnpacked) -> Unpacked
     ensures { λ r. ⌜ r ≡ answerIn answer ⌝ }
 {
-    if answer.number == 0 {
-        let word = answer.word;
-        return word_of(word);
+    if answer.number != 0 {
+        return Unpacked::Refused(answer.number);
     }
-    Unpacked::Refused(answer.number)
+    let word = answer.word;
+    let WordRead::Known(known) = word_of(word) else {
+        return Unpacked::Refused(ground::RESERVED);
+    };
+    let mended = Mended {
+        count: answer.mended,
+        first: answer.first,
+        second: answer.second,
+    };
+    Unpacked::Word(known, mended)
 }
 
 // The word that a line says, given without its newline, with up to two wrong bits mended; s0 is ignored.
@@ -59,7 +69,7 @@ pub extern "C" fn salt_read_line(line: &[u8]) -> SaltUnpacked
     unpacked_numbers_of(report::read_line(line))
 }
 
-// Writes the heading, `line frame points rate guard cell` and a newline. Answers 34.
+// Writes the heading, `line frame points rate guard cell mended` and a newline. Answers 41.
 // Refusals: 3 OUTPUT SHORT.
 #[no_mangle]
 pub extern "C" fn salt_put_heading(out: &mut [u8]) -> SaltCounted
@@ -70,7 +80,7 @@ pub extern "C" fn salt_put_heading(out: &mut [u8]) -> SaltCounted
 }
 
 // Writes the report's line for a line's number and its answer: a word where the answer's number is 0, else that
-// refusal. Answers the bytes written.
+// refusal. A count of mended bits above 2 is written as 2, and their places aren't written. Answers the bytes written.
 // Refusals: 3 OUTPUT SHORT (room for fewer than 60), 5 RESERVED (a word whose constellation is above 2, rate above 4
 // or guard above 3).
 #[no_mangle]

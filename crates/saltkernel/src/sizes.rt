@@ -46,6 +46,8 @@ pub const SIGNED_LAST: usize = 852;
 pub const TPS_INFORMATION_BITS: usize = 53;
 // The bits of a TPS codeword.
 pub const TPS_CODEWORD_BITS: usize = 67;
+// A place of a codeword that stands for none.
+pub const NO_PLACE: usize = 255;
 // A zero bit s0 and the codeword; the symbols of a frame are as many.
 pub const TPS_WORD_BITS: usize = 68;
 // A session's journal: the TPS cells of 68 symbols.
@@ -54,7 +56,7 @@ pub const JOURNAL_FLOATS: usize = 2312;
 // A line of the report's input: the 68 bits of a word, four a digit.
 pub const LINE_DIGITS: usize = 17;
 // The report's heading.
-pub const HEADING_BYTES: usize = 34;
+pub const HEADING_BYTES: usize = 41;
 // Room for every line of the report.
 pub const LINE_ROOM: usize = 60;
 // Room for the report's end.

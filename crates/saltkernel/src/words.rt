@@ -6,9 +6,11 @@ ghost use Rattle.saltkernel.specs.Numbers.{Says};
 ghost use Rattle.saltkernel.specs.Words.{codesFor, wordIn, packAnswer, packLeaves, SaysUnpacked, SaysOneThat};
 use super::SaltCounted;
 use super::numbers_of;
+use super::sizes::NO_PLACE;
 use tps::TpsWord;
 use tps::Unpacked;
 use tps::inner::Codes;
+use tps::inner::WordRead;
 
 // The parameters that a frame signals; constellation, rate and guard interval by their codes.
 #[repr(C)]
@@ -20,15 +22,18 @@ pub struct SaltTpsWord {
     pub cell_id: u8,
 }
 
-// A word, or a refusal's number and zeros.
+// A word and the bits that were changed to read it, or a refusal's number, zeros and no place.
 #[repr(C)]
 pub struct SaltUnpacked {
     pub number: u8,
     pub word: SaltTpsWord,
+    pub mended: usize, // how many of s1 to s67 were changed, 0 to 2
+    pub first: usize, // their places, rising, from 0 for s1 to 66 for s67, or SALT_NO_PLACE
+    pub second: usize,
 }
 
-// The word that codes say, or RESERVED where one of them stands for nothing.
-pub(crate) fn word_of(word: SaltTpsWord) -> Unpacked
+// The word that codes say; they are reserved where one of them stands for nothing.
+pub(crate) fn word_of(word: SaltTpsWord) -> WordRead
     ensures { λ r. ⌜ r ≡ wordIn word ⌝ }
 {
     tps::inner::word_of(Codes {
@@ -54,14 +59,17 @@ fn codes_of(word: TpsWord) -> SaltTpsWord
     }
 }
 
-// A word as numbers.
+// A word and its mended bits as numbers.
 pub(crate) fn unpacked_numbers_of(answer: Unpacked) -> SaltUnpacked
     ensures { λ r. ⌜ SaysUnpacked r answer ⌝ }
 {
     match answer {
-        Unpacked::Word(word) => SaltUnpacked {
+        Unpacked::Word(word, mended) => SaltUnpacked {
             number: 0,
             word: codes_of(word),
+            mended: mended.count,
+            first: mended.first,
+            second: mended.second,
         },
         Unpacked::Refused(number) => SaltUnpacked {
             number,
@@ -72,6 +80,9 @@ pub(crate) fn unpacked_numbers_of(answer: Unpacked) -> SaltUnpacked
                 guard: 0,
                 cell_id: 0,
             },
+            mended: 0,
+            first: NO_PLACE,
+            second: NO_PLACE,
         },
     }
 }
@@ -89,7 +100,7 @@ pub extern "C" fn salt_tps_word_pack(word: SaltTpsWord, out: &mut [u8]) -> SaltC
             count: 0,
         };
     }
-    let Unpacked::Word(known) = word_of(word) else {
+    let WordRead::Known(known) = word_of(word) else {
         return SaltCounted {
             number: ground::RESERVED,
             count: 0,

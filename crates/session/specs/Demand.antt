@@ -84,8 +84,8 @@ abbrev pub received : Mode → List (List Float) → List ℕ
 received m ys = drop 1 (decoderAfter m ys .bits)
 
 -- a call for the word with st standing: INCOMPLETE exactly with fewer than 68; with 68, what the codeword within two of
--- the bits s1..s67 tells (a word, or that a code is reserved), of which there is at most one, and NO WORD exactly when
--- there is none
+-- the bits s1..s67 tells (a word and the places at which they differ, or that a code is reserved), of which there is at
+-- most one, and NO WORD exactly when there is none
 pub record WordRight (m : Mode) (st : Standing) (r : Unpacked) : Type 0 where
   pub incomplete : (r ≡ unpacked.Refused INCOMPLETE) ↔ (many st < SYMBOLS)
   pub full : many st ≡ SYMBOLS

@@ -13,7 +13,7 @@ use Rattle.tps.specs.declared.word.PunctureRate.the-variants.{«R1_2», 
 use Rattle.tps.specs.declared.word.GuardInterval.{GuardInterval}
 use Rattle.tps.specs.declared.word.GuardInterval.the-variants.{«G1_32», «G1_16», «G1_8», «G1_4»}
 use Rattle.tps.specs.declared.word.TpsWord.{TpsWord}
-use Rattle.tps.specs.declared.word.Unpacked.the-variants.{Word}
+use Rattle.bch.specs.declared.Mended.{Mended}
 use Rattle.tps.specs.declared.inner.Codes.{Codes}
 use Rattle.tps.specs.declared.inner.ConstellationRead.{ConstellationRead}
 use Rattle.tps.specs.declared.inner.ConstellationRead.the-variants as constellation
@@ -21,8 +21,10 @@ use Rattle.tps.specs.declared.inner.RateRead.{RateRead}
 use Rattle.tps.specs.declared.inner.RateRead.the-variants as rate
 use Rattle.tps.specs.declared.inner.GuardRead.{GuardRead}
 use Rattle.tps.specs.declared.inner.GuardRead.the-variants as guard
+use Rattle.tps.specs.declared.inner.WordRead.{WordRead}
+use Rattle.tps.specs.declared.inner.WordRead.the-variants as word
 use Rattle.tps.specs.Codes.{constellationCode, constellationOf, rateCode, rateOf, guardCode, guardOf, codesOf, wordBy, wordOf}
-use Rattle.tps.specs.Packing.{numberOf}
+use Rattle.tps.specs.Packing.{numberOf, unpackedBy}
 
 -- ---- the constellation
 
@@ -117,28 +119,31 @@ word-by k c r g ec er eg =
     ap (λ (x : ConstellationRead). wordBy k x r g) (sym ec)
     ∙ ap₂ (λ (x : RateRead) (y : GuardRead). wordBy k (constellationOf (k .constellation)) x y) (sym er) (sym eg)
 
-pub word-of-codes : (w : TpsWord) → wordOf (codesOf w) ≡ Word w
+pub word-of-codes : (w : TpsWord) → wordOf (codesOf w) ≡ word.Known w
 word-of-codes w =
     sym (word-by (codesOf w) _ _ _ (constellation-known (w .constellation)) (rate-known (w .«code_rate_hp»)) (guard-known (w .guard)))
 
 -- codes of which the guard's has two bits say a word, or are RESERVED: exactly where the constellation's is 3 or more,
 -- or the rate's 5 or more
-module _ (k : Codes) (two : k .guard < 4) where
+module _ (k : Codes) (m : Mended) (two : k .guard < 4) where
+  abbrev number : WordRead → ℕ
+  number w = numberOf (unpackedBy w m)
+
   number-by : Dec (k .constellation < 3) → Dec (k .rate < 5)
-      → ((numberOf (wordOf k) ≡ ACCEPTED) × (k .constellation < 3) × (k .rate < 5))
-      ⊎ ((numberOf (wordOf k) ≡ RESERVED) × ((3 ≤ k .constellation) ⊎ (5 ≤ k .rate)))
+      → ((number (wordOf k) ≡ ACCEPTED) × (k .constellation < 3) × (k .rate < 5))
+      ⊎ ((number (wordOf k) ≡ RESERVED) × ((3 ≤ k .constellation) ⊎ (5 ≤ k .rate)))
   number-by (yes hc) (yes hr) =
       let e = word-by k _ _ _ (constellation-below (k .constellation) hc .1) (rate-below (k .rate) hr .1) (guard-below (k .guard) two .1) in
-      inl (ap numberOf (sym e), hc, hr)
+      inl (ap number (sym e), hc, hr)
   number-by (yes hc) (no hr) =
       let h : 5 ≤ k .rate = omega arith in
       let e = word-by k _ _ (guardOf (k .guard)) (constellation-below (k .constellation) hc .1) (rate-reserved (k .rate) h) refl in
-      inr (ap numberOf (sym e), inr h)
+      inr (ap number (sym e), inr h)
   number-by (no hc) hr =
       let h : 3 ≤ k .constellation = omega arith in
       let e = word-by k _ (rateOf (k .rate)) (guardOf (k .guard)) (constellation-reserved (k .constellation) h) refl refl in
-      inr (ap numberOf (sym e), inl h)
+      inr (ap number (sym e), inl h)
 
-  pub word-number : ((numberOf (wordOf k) ≡ ACCEPTED) × (k .constellation < 3) × (k .rate < 5))
-      ⊎ ((numberOf (wordOf k) ≡ RESERVED) × ((3 ≤ k .constellation) ⊎ (5 ≤ k .rate)))
+  pub word-number : ((number (wordOf k) ≡ ACCEPTED) × (k .constellation < 3) × (k .rate < 5))
+      ⊎ ((number (wordOf k) ≡ RESERVED) × ((3 ≤ k .constellation) ⊎ (5 ≤ k .rate)))
   word-number = number-by (decLt (k .constellation) 3) (decLt (k .rate) 5)

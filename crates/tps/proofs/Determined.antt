@@ -7,7 +7,7 @@ use mathlib.Core.List.{List, map}
 use Prim.Native.Nat.{ℕ, zero, suc, min}
 use lib.Dec.{eqb, ltb, leb}
 use lib.Ieee.{Float}
-use lib.ListN.{length, take, drop}
+use lib.ListN.{length, drop}
 use borrow.Author.Tests.{eqb-true}
 use Rattle.ground.specs.Refusal.{ACCEPTED, LENGTH, NOT-A-BIT, INCOMPLETE}
 use Rattle.ground.specs.Answer.{kept}
@@ -22,9 +22,8 @@ use Rattle.tps.specs.declared.word.Unpacked.{Unpacked}
 use Rattle.tps.specs.declared.word.Unpacked.the-variants.{Refused}
 use Rattle.tps.specs.declared.sender.TpsEncoder.{TpsEncoder}
 use Rattle.tps.specs.declared.receiver.TpsDecoder.{TpsDecoder}
-use Rattle.tps.specs.Codes.{wordOf}
-use Rattle.tps.specs.Word.{SYMBOLS, codesIn}
-use Rattle.tps.specs.Packing.{packAnswer, packLeaves, numberOf, UnpacksBy, Unpacks, nearAnswer, unpackAnswer}
+use Rattle.tps.specs.Word.{SYMBOLS}
+use Rattle.tps.specs.Packing.{packAnswer, packLeaves, numberOf, readAs, UnpacksBy, Unpacks, nearAnswer, unpackAnswer}
 use Rattle.tps.specs.Send.{freshEncoder, sendAnswer, sendLeaves}
 use Rattle.tps.specs.Receive.{freshDecoder, feedAnswer, bitsAnswer, bitsLeaves, WordsBy, Words, wordAnswer}
 use Rattle.tps.proofs.Unpacking.{refused-is, rest-length, rest-bits}
@@ -38,14 +37,14 @@ module _ (b : List ℕ) (hl : length b ≡ SYMBOLS) (hb : areBits b ≡ true) wh
   answers-one : (r q : Unpacked) → UnpacksBy zero b r → UnpacksBy zero b q → r ≡ q
   answers-one r q (inl h) (inl k) =
       h .says
-      ∙ ap (λ (w : List ℕ). wordOf (codesIn (take 53 w)))
+      ∙ ap (λ (w : List ℕ). readAs w (drop 1 b))
       (unique (h .word) (k .word) (drop 1 b) (h .codeword) (k .codeword) (rest-bits b hl hb) (rest-length b hl hb) (h .near) (k .near))
       ∙ sym (k .says)
   answers-one r q (inl h) (inr k) = absurd (k .0 (h .word) (h .codeword) (h .near))
   answers-one r q (inr h) (inl k) = absurd (h .0 (k .word) (k .codeword) (k .near))
   answers-one r q (inr h) (inr k) = refused-one r q 3 (h .1) (k .1)
 
-  near-unpacks : (n : Near) → nearOf (drop 1 b) ≡ n → UnpacksBy zero b (nearAnswer n)
+  near-unpacks : (n : Near) → nearOf (drop 1 b) ≡ n → UnpacksBy zero b (nearAnswer n (drop 1 b))
   near-unpacks (found c) e = let t = near-found (drop 1 b) c e in inl record { word = c; codeword = t .0; near = t .1; says = refl }
   near-unpacks none e = inr (near-none (drop 1 b) (rest-bits b hl hb) (rest-length b hl hb) e, refl)
 
@@ -64,7 +63,7 @@ module _ (b : List ℕ) where
   unpack-determined r q h k = determined-by r q (eqb (length b) SYMBOLS) (areBits b) refl refl h k
 
   unpacks-by : (x y : Bool) → eqb (length b) SYMBOLS ≡ x → areBits b ≡ y
-      → UnpacksBy (no x y) b (kept (no x y) (nearAnswer (nearOf (drop 1 b))) (Refused (no x y)))
+      → UnpacksBy (no x y) b (kept (no x y) (nearAnswer (nearOf (drop 1 b)) (drop 1 b)) (Refused (no x y)))
   unpacks-by true true ex ey = near-unpacks b (eqb-true (length b) SYMBOLS ex) ey (nearOf (drop 1 b)) refl
   unpacks-by true false ex ey = refl
   unpacks-by false y ex ey = refl

@@ -9,6 +9,7 @@ use lib.ListN.{length, getD, take}
 use Rattle.ground.specs.Refusal.{ACCEPTED}
 use Rattle.ground.specs.declared.ConstellationOrder.{ConstellationOrder}
 use Rattle.ground.specs.declared.ConstellationOrder.the-variants.{Qpsk}
+use Rattle.bch.specs.declared.Mended.{Mended}
 use Rattle.tps.specs.declared.word.PunctureRate.{PunctureRate}
 use Rattle.tps.specs.declared.word.PunctureRate.the-variants.{«R1_2»}
 use Rattle.tps.specs.declared.word.GuardInterval.{GuardInterval}
@@ -18,16 +19,17 @@ use Rattle.tps.specs.declared.word.Unpacked.{Unpacked}
 use Rattle.tps.specs.declared.word.Unpacked.the-variants as unpacked
 use Rattle.tps.specs.declared.receiver.TpsBit.{TpsBit}
 use Rattle.tps.specs.declared.receiver.TpsBit.the-variants.{Bit, Refused}
-use Rattle.tps.specs.declared.inner.Codes.{Codes}
 use Rattle.tps.specs.declared.inner.ConstellationRead.{ConstellationRead}
 use Rattle.tps.specs.declared.inner.ConstellationRead.the-variants as constellation
 use Rattle.tps.specs.declared.inner.RateRead.{RateRead}
 use Rattle.tps.specs.declared.inner.RateRead.the-variants as rate
 use Rattle.tps.specs.declared.inner.GuardRead.{GuardRead}
 use Rattle.tps.specs.declared.inner.GuardRead.the-variants as guard
-use Rattle.tps.specs.Codes.{constellationCode, constellationOf, rateCode, rateOf, guardCode, guardOf, wordBy, wordOf}
+use Rattle.tps.specs.declared.inner.WordRead.{WordRead}
+use Rattle.tps.specs.declared.inner.WordRead.the-variants.{Known, Reserved}
+use Rattle.tps.specs.Codes.{constellationCode, constellationOf, rateCode, rateOf, guardCode, guardOf, wordOf}
 use Rattle.tps.specs.Word.{codesIn}
-use Rattle.tps.specs.Packing.{unpackedSays, numberOf, UnpacksBy, unpackNo, Unpacks}
+use Rattle.tps.specs.Packing.{unpackedSays, numberOf, unpackedBy, UnpacksBy, unpackNo, Unpacks}
 use Rattle.tps.specs.Receive.{bitSays, bitNumber, bitAnswer}
 use Rattle.tps.proofs.Codes.{constellation-known, rate-known, guard-known}
 
@@ -43,11 +45,14 @@ bit-faithful (Bit b) (Refused k) e = absurd (some-none (ap (λ (s : ℕ × List 
 bit-faithful (Refused k) (Bit d) e = absurd (some-none (ap (λ (s : ℕ × List ℕ). s .1) (sym e)) refl)
 bit-faithful (Refused k) (Refused j) e = ap (λ (s : ℕ × List ℕ). Refused (s .0)) e
 
+abbrev Says : Type 0
+Says = ℕ × List (TpsWord × Mended)
+
 pub unpacked-faithful : (a c : Unpacked) → unpackedSays a ≡ unpackedSays c → a ≡ c
-unpacked-faithful (unpacked.Word w) (unpacked.Word v) e = ap (λ (s : ℕ × List TpsWord). unpacked.Word (getD (s .1) 0 w)) e
-unpacked-faithful (unpacked.Word w) (unpacked.Refused k) e = absurd (some-none (ap (λ (s : ℕ × List TpsWord). s .1) e) refl)
-unpacked-faithful (unpacked.Refused k) (unpacked.Word v) e = absurd (some-none (ap (λ (s : ℕ × List TpsWord). s .1) (sym e)) refl)
-unpacked-faithful (unpacked.Refused k) (unpacked.Refused j) e = ap (λ (s : ℕ × List TpsWord). unpacked.Refused (s .0)) e
+unpacked-faithful (unpacked.Word w m) (unpacked.Word v n) e = ap (λ (s : Says). unpacked.Word (getD (s .1) 0 (w, m) .0) (getD (s .1) 0 (w, m) .1)) e
+unpacked-faithful (unpacked.Word w m) (unpacked.Refused k) e = absurd (some-none (ap (λ (s : Says). s .1) e) refl)
+unpacked-faithful (unpacked.Refused k) (unpacked.Word v n) e = absurd (some-none (ap (λ (s : Says). s .1) (sym e)) refl)
+unpacked-faithful (unpacked.Refused k) (unpacked.Refused j) e = ap (λ (s : Says). unpacked.Refused (s .0)) e
 
 -- ---- number 0 is an accepted call's
 
@@ -57,20 +62,15 @@ fed-by-0 (suc k) b e = absurd (omega (arith, e))
 
 -- the answer is a word
 abbrev IsWord : Unpacked → Type 0
-IsWord r = (w : TpsWord) × (r ≡ unpacked.Word w)
+IsWord r = (w : TpsWord) × (m : Mended) × (r ≡ unpacked.Word w m)
 
-word-by-0 : (k : Codes) (c : ConstellationRead) (r : RateRead) (g : GuardRead) → numberOf (wordBy k c r g) ≡ ACCEPTED → IsWord (wordBy k c r g)
-word-by-0 k (constellation.Known c) (rate.Known r) (guard.Known g) e = (_, refl)
-word-by-0 k (constellation.Known c) (rate.Known r) guard.Reserved e = absurd (omega (arith, e))
-word-by-0 k (constellation.Known c) rate.Reserved g e = absurd (omega (arith, e))
-word-by-0 k constellation.Reserved r g e = absurd (omega (arith, e))
-
-word-is : (k : Codes) → numberOf (wordOf k) ≡ ACCEPTED → IsWord (wordOf k)
-word-is k = word-by-0 k (constellationOf (k .constellation)) (rateOf (k .rate)) (guardOf (k .guard))
+word-by-0 : (x : WordRead) (m : Mended) → numberOf (unpackedBy x m) ≡ ACCEPTED → IsWord (unpackedBy x m)
+word-by-0 (Known w) m e = (w, m, refl)
+word-by-0 Reserved m e = absurd (omega (arith, e))
 
 unpacked-by : (number : ℕ) (b : List ℕ) (r : Unpacked) → UnpacksBy number b r → numberOf r ≡ ACCEPTED → IsWord r
 unpacked-by zero b r (inl h) e =
-    let w = word-is (codesIn (take 53 (h .word))) (sym (ap numberOf (h .says)) ∙ e) in (w .0, h .says ∙ w .1)
+    let w = word-by-0 (wordOf (codesIn (take 53 (h .word)))) _ (sym (ap numberOf (h .says)) ∙ e) in (w .0, w .1, h .says ∙ w .2)
 unpacked-by zero b r (inr h) e = absurd (omega (arith, e, h .1))
 unpacked-by (suc k) b r h e = absurd (omega (arith, e, h))
 

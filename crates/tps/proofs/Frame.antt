@@ -1,5 +1,5 @@
--- What the sender sends, the receiver reads back, for every 68 bits: s0 reads 0. A frame exists for every list of
--- bits, and one for every word, so that this is said of each. Assumes nothing.
+-- What the sender sends, the receiver reads back, for every 68 bits: s0 reads 0, and no bit is mended. A frame exists
+-- for every list of bits, and one for every word, so that this is said of each. Assumes nothing.
 use mathlib.Core.Path.{_≡_, refl, sym, ap, _∙_, subst}
 use mathlib.Core.List.{List, [], _∷_, _++_, map, reverse, reverse-cons, reverse-reverse}
 use Prim.Native.Nat.{ℕ, _<_, _≤_, min}
@@ -10,7 +10,8 @@ use lib.Seq.{take-all}
 use Rattle.ground.specs.Bits.{Bits}
 use Rattle.ground.specs.Cells.{plusZero}
 use Rattle.ground.proofs.Bits.{bits-append}
-use Rattle.bch.specs.Code.{distance, encode}
+use Rattle.bch.specs.Code.{encode}
+use Rattle.bch.specs.Promise.{mendedAt}
 use Rattle.bch.proofs.Places.{places-self}
 use Rattle.carriers.specs.Mode.{Mode, tpsSize}
 use Rattle.tps.specs.declared.sender.TpsEncoder.{TpsEncoder}
@@ -41,16 +42,17 @@ frame-read m facts bs e d f l =
 few : 0 ≤ 2
 few = omega arith
 
--- a word whose bits were sent and fed comes back from the receiver, its frame number modulo 4
+-- a word whose bits were sent and fed comes back from the receiver, its frame number modulo 4, and no bit is mended
 pub word-read : (m : Mode) → TpsFacts m → (w : TpsWord) (bs : List ℕ) (e : TpsEncoder) (d : TpsDecoder) (r : Unpacked) → w .«cell_id» < 256
-    → Frame m bs e d → length bs ≡ SYMBOLS → readBits bs ≡ wordBits w → Words d r → r ≡ Word (modulo4 w)
+    → Frame m bs e d → length bs ≡ SYMBOLS → readBits bs ≡ wordBits w → Words d r → r ≡ Word (modulo4 w) (mendedAt [])
 word-read m facts w bs e d r h f l s k =
     let t = frame-read m facts bs e d f l in
     let b : Bits (wordBits w) = word-bits w in
     let g : map (min 1) (d .bits) ≡ wordBits w = ap (map (min 1)) (t .1 ∙ s) ∙ bits-held (wordBits w) b in
-    let z : distance (drop 1 (wordBits w)) (drop 1 (wordBits w)) ≡ 0 = ap length (places-self 0 (drop 1 (wordBits w))) in
+    let z = places-self 0 (drop 1 (wordBits w)) in
     let u : Unpacks (map (min 1) (d .bits)) r = word-unpacked d (t .0) r k in
-    unpack-packed w h (wordBits w) b (word-length w) r (subst (λ (n : ℕ). n ≤ 2) (sym z) few) (subst (λ (x : List ℕ). Unpacks x r) g u)
+    unpack-packed w h (wordBits w) b (word-length w) r (subst (λ (ps : List ℕ). length ps ≤ 2) (sym z) few) (subst (λ (x : List ℕ). Unpacks x r) g u)
+    ∙ ap (λ (ps : List ℕ). Word (modulo4 w) (mendedAt ps)) z
 
 -- ---- frames exist
 

@@ -1,5 +1,5 @@
--- A packed word with at most two of s1..s67 wrong, and s0 either, is unpacked to itself, its frame number modulo 4.
--- Assumes nothing.
+-- A packed word with at most two of s1..s67 wrong, and s0 either, is unpacked to itself, its frame number modulo 4, and
+-- the wrong bits are told. Assumes nothing.
 use mathlib.Core.Path.{_≡_, sym, ap, _∙_, subst}
 use mathlib.Core.Logic.{inl}
 use mathlib.Core.List.{List}
@@ -11,14 +11,17 @@ use Rattle.ground.specs.Bits.{Bits}
 use Rattle.ground.specs.Digits.{digitsOf}
 use Rattle.ground.proofs.Bits.{are-bits}
 use Rattle.ground.proofs.Digits.{small-digits}
-use Rattle.bch.specs.Code.{distance, parity, encode}
+use Rattle.bch.specs.Code.{places, distance, parity, encode}
+use Rattle.bch.specs.Promise.{mendedAt}
 use Rattle.bch.proofs.Codeword.{encode-codeword}
+use Rattle.tps.specs.declared.inner.WordRead.{WordRead}
+use Rattle.tps.specs.declared.inner.WordRead.the-variants.{Known}
 use Rattle.tps.specs.declared.word.TpsWord.{TpsWord}
 use Rattle.tps.specs.declared.word.Unpacked.{Unpacked}
 use Rattle.tps.specs.declared.word.Unpacked.the-variants.{Word}
 use Rattle.tps.specs.Codes.{constellationCode, rateCode, guardCode, codesOf, wordOf}
 use Rattle.tps.specs.Word.{fieldsOf, informationOf, wordBits, codesIn, modulo4}
-use Rattle.tps.specs.Packing.{packLeaves, UnpacksBy, Unpacks}
+use Rattle.tps.specs.Packing.{packLeaves, unpackedBy, UnpacksBy, Unpacks}
 use Rattle.tps.proofs.Codes.{constellation-small, rate-small, guard-small, word-of-codes}
 use Rattle.tps.proofs.Fields.{fields-bits}
 use Rattle.tps.proofs.Packing.{information-length, pack-writes}
@@ -38,29 +41,35 @@ module _ (w : TpsWord) (h : w .«cell_id» < 256) where
       )
 
   -- and so it says the word
-  pub information-says : wordOf (codesIn (informationOf w)) ≡ Word (modulo4 w)
+  pub information-says : wordOf (codesIn (informationOf w)) ≡ Known (modulo4 w)
   information-says = ap wordOf codes-back ∙ word-of-codes (modulo4 w)
 
   module _ (b : List ℕ) (hb : Bits b) (hl : length b ≡ 68) where
-    near-word : distance (encode (informationOf w)) (drop 1 b) ≤ 2 → Unpacks b (Word (modulo4 w))
+    -- the word with the bits of s1..s67 at which b differs from the bits s
+    abbrev mendedFrom : List ℕ → Unpacked
+    mendedFrom s = Word (modulo4 w) (mendedAt (places 0 (drop 1 s) (drop 1 b)))
+
+    near-word : distance (encode (informationOf w)) (drop 1 b) ≤ 2 → Unpacks b (mendedFrom (wordBits w))
     near-word n =
-        subst (λ (k : ℕ). UnpacksBy k b (Word (modulo4 w))) (sym (unpack-accepted b hl (are-bits b hb)))
+        subst (λ (k : ℕ). UnpacksBy k b (mendedFrom (wordBits w))) (sym (unpack-accepted b hl (are-bits b hb)))
         (inl record {
           word = encode (informationOf w);
           codeword = encode-codeword (informationOf w) (fields-bits (fieldsOf (codesOf w))) (information-length w);
           near = n;
           says =
-              sym (ap (λ (s : List ℕ). wordOf (codesIn s)) (take-at (informationOf w) (digitsOf 14 (parity (informationOf w))) 53 (information-length w))
-              ∙ information-says);
+              sym (ap (λ (x : WordRead). unpackedBy x (mendedAt (places 0 (encode (informationOf w)) (drop 1 b))))
+              (ap (λ (s : List ℕ). wordOf (codesIn s)) (take-at (informationOf w) (digitsOf 14 (parity (informationOf w))) 53 (information-length w))
+              ∙ information-says));
         })
 
     -- of a word's bits s0..s67, at most two of s1..s67 wrong and s0 either, unpacking answers the word, its frame
-    -- number modulo 4
-    pub unpack-packed : (r : Unpacked) → distance (drop 1 (wordBits w)) (drop 1 b) ≤ 2 → Unpacks b r → r ≡ Word (modulo4 w)
-    unpack-packed r n k = unpack-determined b r (Word (modulo4 w)) k (near-word n)
+    -- number modulo 4, and the places of the wrong bits
+    pub unpack-packed : (r : Unpacked) → distance (drop 1 (wordBits w)) (drop 1 b) ≤ 2 → Unpacks b r → r ≡ mendedFrom (wordBits w)
+    unpack-packed r n k = unpack-determined b r (mendedFrom (wordBits w)) k (near-word n)
 
     -- the same of what packing leaves in an output with room for it
     pub unpack-written : (o a : List ℕ) (r : Unpacked) → 68 ≤ length o → a ≡ packLeaves w o → distance (drop 1 (take 68 a)) (drop 1 b) ≤ 2
-        → Unpacks b r → r ≡ Word (modulo4 w)
+        → Unpacks b r → r ≡ mendedFrom (take 68 a)
     unpack-written o a r room e n k =
-        unpack-packed r (subst (λ (l : List ℕ). distance (drop 1 l) (drop 1 b) ≤ 2) (ap (take 68) e ∙ pack-writes w o room) n) k
+        let s : take 68 a ≡ wordBits w = ap (take 68) e ∙ pack-writes w o room in
+        unpack-packed r (subst (λ (l : List ℕ). distance (drop 1 l) (drop 1 b) ≤ 2) s n) k ∙ ap mendedFrom (sym s)

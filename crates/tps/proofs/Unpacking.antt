@@ -11,17 +11,19 @@ use lib.ListN.{length, getD, take, drop, replicate, length-drop}
 use lib.Seq.{take-all, length-take-le}
 use borrow.Author.Tests.{eq-eqb, ne-eqb, lt-ltb, le-ltb}
 use Rattle.ground.specs.Refusal.{ACCEPTED, LENGTH, NOT-A-BIT, NO-WORD, RESERVED}
-use Rattle.ground.specs.declared.Counted.{Counted}
-use Rattle.ground.specs.declared.Counted.the-variants as counts
 use Rattle.ground.specs.Bits.{Bits, areBits}
 use Rattle.ground.proofs.Bits.{bits-drop, bits-take, bits-of, are-bits}
-use Rattle.bch.specs.Promise.{Corrected, Answers, Decodes}
+use Rattle.bch.specs.Code.{places}
+use Rattle.bch.specs.Promise.{mendedAt, mendedIn, Corrected, Answers, Decodes}
+use Rattle.bch.specs.declared.Mended.{Mended}
+use Rattle.bch.specs.declared.Decoded.{Decoded}
+use Rattle.bch.specs.declared.Decoded.the-variants as decode
 use Rattle.bch.proofs.Answer as bch
 use Rattle.tps.specs.declared.word.Unpacked.{Unpacked}
 use Rattle.tps.specs.declared.word.Unpacked.the-variants.{Word, Refused}
 use Rattle.tps.specs.Codes.{wordOf}
 use Rattle.tps.specs.Word.{said, codesIn}
-use Rattle.tps.specs.Packing.{numberOf, unpackNo, Received, UnpacksBy, Unpacks}
+use Rattle.tps.specs.Packing.{numberOf, unpackNo, unpackedBy, Received, UnpacksBy, Unpacks}
 use Rattle.tps.proofs.Codes.{word-number}
 use Rattle.tps.proofs.Fields.{part-below}
 
@@ -59,7 +61,7 @@ module _ (b : List ℕ) where
     unpack-accepted h = simp (eq-eqb (length b) 68 hl, h) refl
 
 pub refused-is : (r : Unpacked) (k : ℕ) → numberOf r ≡ suc k → r ≡ Refused (suc k)
-refused-is (Word w) k e = absurd (omega (arith, e))
+refused-is (Word w m) k e = absurd (omega (arith, e))
 refused-is (Refused n) k e = ap Refused e
 
 -- ---- what the decoder gave
@@ -74,23 +76,23 @@ module _ (b : List ℕ) (hl : length b ≡ 68) (hb : areBits b ≡ true) where
   rest : take (length b - 1) (drop 1 b) ≡ drop 1 b
   rest = take-all (length b - 1) (drop 1 b) (omega (arith, rest-length))
 
-  module _ (r : Counted) (a : List ℕ) (d : Decodes (take (length b - 1) (drop 1 b)) (replicate 53 0) r a) where
+  module _ (r : Decoded) (a : List ℕ) (d : Decodes (take (length b - 1) (drop 1 b)) (replicate 53 0) r a) where
     given : Answers zero (drop 1 b) (replicate 53 0) r a
     given =
         subst (λ (n : ℕ). Answers n (drop 1 b) (replicate 53 0) r a)
         (bch.accepted 67 53 (drop 1 b) (replicate 53 0) rest-length (are-bits (drop 1 b) rest-bits) (omega arith))
         (subst (λ (w : List ℕ). Decodes w (replicate 53 0) r a) rest d)
 
-    refused-by : (k : ℕ) → r ≡ counts.Refused k → Answers zero (drop 1 b) (replicate 53 0) r a → Unpacks b (Refused NO-WORD)
+    refused-by : (k : ℕ) → r ≡ decode.Refused k → Answers zero (drop 1 b) (replicate 53 0) r a → Unpacks b (Refused NO-WORD)
     refused-by k e (inl h) =
         let f = h .answers in
         let z : _≡_ {A = ℕ} 0 1 = cc in absurd (omega arith)
     refused-by k e (inr h) = by-number b ACCEPTED (Refused NO-WORD) (unpack-accepted b hl hb) (inr (h .0, refl))
 
-    pub unpack-no-word : (k : ℕ) → r ≡ counts.Refused k → Unpacks b (Refused NO-WORD)
+    pub unpack-no-word : (k : ℕ) → r ≡ decode.Refused k → Unpacks b (Refused NO-WORD)
     unpack-no-word k e = refused-by k e given
 
-    module _ (n : ℕ) (e : r ≡ counts.Count n) where
+    module _ (m : Mended) (e : r ≡ decode.Information m) where
       corrected-by : Answers zero (drop 1 b) (replicate 53 0) r a → Corrected (drop 1 b) (replicate 53 0) r a
       corrected-by (inl h) = h
       corrected-by (inr h) =
@@ -115,14 +117,17 @@ module _ (b : List ℕ) (hl : length b ≡ 68) (hb : areBits b ≡ true) where
         ap length information ∙ size,
       )
 
-      pub unpack-word : (u : Unpacked) → u ≡ wordOf (codesIn a) → Unpacks b u
+      mended : m ≡ mendedAt (places 0 (corrected .word) (drop 1 b))
+      mended = ap mendedIn (sym e ∙ corrected .answers)
+
+      pub unpack-word : (u : Unpacked) → u ≡ unpackedBy (wordOf (codesIn a)) m → Unpacks b u
       unpack-word u f =
           by-number b ACCEPTED u (unpack-accepted b hl hb)
           (inl record {
             word = corrected .word;
             codeword = corrected .codeword;
             near = corrected .near;
-            says = f ∙ ap (λ (s : List ℕ). wordOf (codesIn s)) information;
+            says = f ∙ ap₂ (λ (s : List ℕ) (m : Mended). unpackedBy (wordOf (codesIn s)) m) information mended;
           })
 
 -- ---- RESERVED exactly where document 01 says
@@ -134,4 +139,4 @@ module _ {b : List ℕ} {r : Unpacked} (h : Received b r) where
   received-number =
       let s : List ℕ = take 53 (h .word) in
       let l : length s ≡ 53 = length-take-le 53 (h .word) (omega (arith, h .codeword .size)) in
-      rw (h .says) (word-number (codesIn s) (part-below s 35 2 (bits-take 53 (h .word) (h .codeword .bits)) (omega arith)))
+      rw (h .says) (word-number (codesIn s) _ (part-below s 35 2 (bits-take 53 (h .word) (h .codeword .bits)) (omega arith)))

@@ -1,6 +1,5 @@
 -- Document 01, 'TPS'; EN 300 744, 4.6.2: the codes of a word's fields, and the word that codes say.
 use Prim.Native.Nat.{ℕ, zero, suc}
-use Rattle.ground.specs.Refusal.{RESERVED}
 use Rattle.ground.specs.declared.ConstellationOrder.{ConstellationOrder}
 use Rattle.ground.specs.declared.ConstellationOrder.the-variants.{Qpsk, Qam16, Qam64}
 use Rattle.tps.specs.declared.word.PunctureRate.{PunctureRate}
@@ -8,8 +7,6 @@ use Rattle.tps.specs.declared.word.PunctureRate.the-variants.{«R1_2», 
 use Rattle.tps.specs.declared.word.GuardInterval.{GuardInterval}
 use Rattle.tps.specs.declared.word.GuardInterval.the-variants.{«G1_32», «G1_16», «G1_8», «G1_4»}
 use Rattle.tps.specs.declared.word.TpsWord.{TpsWord}
-use Rattle.tps.specs.declared.word.Unpacked.{Unpacked}
-use Rattle.tps.specs.declared.word.Unpacked.the-variants.{Word, Refused}
 use Rattle.tps.specs.declared.inner.Codes.{Codes}
 use Rattle.tps.specs.declared.inner.ConstellationRead.{ConstellationRead}
 use Rattle.tps.specs.declared.inner.ConstellationRead.the-variants as constellation
@@ -17,6 +14,8 @@ use Rattle.tps.specs.declared.inner.RateRead.{RateRead}
 use Rattle.tps.specs.declared.inner.RateRead.the-variants as rate
 use Rattle.tps.specs.declared.inner.GuardRead.{GuardRead}
 use Rattle.tps.specs.declared.inner.GuardRead.the-variants as guard
+use Rattle.tps.specs.declared.inner.WordRead.{WordRead}
+use Rattle.tps.specs.declared.inner.WordRead.the-variants as word
 
 -- ---- 4.6.2.5: 0 QPSK, 1 16-QAM, 2 64-QAM; 3 is reserved
 
@@ -75,14 +74,14 @@ codesOf w =
       cell = w .«cell_id»;
     }
 
--- the word that codes say with what three of them stand for, RESERVED where one of these stands for nothing
-abbrev pub wordBy : Codes → ConstellationRead → RateRead → GuardRead → Unpacked
+-- the word that codes say with what three of them stand for, reserved where one of these stands for nothing
+abbrev pub wordBy : Codes → ConstellationRead → RateRead → GuardRead → WordRead
 wordBy k (constellation.Known c) (rate.Known r) (guard.Known g) =
-    Word (record { «frame_number» = k .frame; constellation = c; «code_rate_hp» = r; guard = g; «cell_id» = k .cell })
-wordBy k (constellation.Known c) (rate.Known r) guard.Reserved = Refused RESERVED
-wordBy k (constellation.Known c) rate.Reserved g = Refused RESERVED
-wordBy k constellation.Reserved r g = Refused RESERVED
+    word.Known (record { «frame_number» = k .frame; constellation = c; «code_rate_hp» = r; guard = g; «cell_id» = k .cell })
+wordBy k (constellation.Known c) (rate.Known r) guard.Reserved = word.Reserved
+wordBy k (constellation.Known c) rate.Reserved g = word.Reserved
+wordBy k constellation.Reserved r g = word.Reserved
 
--- the word that codes say, or RESERVED
-abbrev pub wordOf : Codes → Unpacked
+-- the word that codes say, or that they are reserved
+abbrev pub wordOf : Codes → WordRead
 wordOf k = wordBy k (constellationOf (k .constellation)) (rateOf (k .rate)) (guardOf (k .guard))

@@ -1,5 +1,5 @@
--- Document 01, 'TPS' and 'Refusal numbers': what packing and unpacking a word answer, and what packing leaves in the
--- lent output.
+-- Document 01, 'TPS' and 'Refusal numbers', and document 02, E1: what packing and unpacking a word answer, and what
+-- packing leaves in the lent output.
 use mathlib.Core.Path.{_≡_}
 use mathlib.Core.Bool.{not}
 use mathlib.Core.List.{List, [], _∷_}
@@ -7,12 +7,16 @@ use mathlib.Core.Logic.{_⊎_}
 use Prim.Native.Nat.{ℕ, zero, suc, _≤_}
 use lib.Dec.{eqb}
 use lib.ListN.{length, take, drop}
-use Rattle.ground.specs.Refusal.{ACCEPTED, LENGTH, NOT-A-BIT, NO-WORD, _gives_, firstOf}
+use Rattle.ground.specs.Refusal.{ACCEPTED, LENGTH, NOT-A-BIT, NO-WORD, RESERVED, _gives_, firstOf}
 use Rattle.ground.specs.Answer.{kept, fillNo, fillAnswer, fillLeaves}
 use Rattle.ground.specs.declared.Counted.{Counted}
 use Rattle.ground.specs.Bits.{areBits}
-use Rattle.bch.specs.Code.{Codeword, distance, Lone}
+use Rattle.bch.specs.Code.{Codeword, places, distance, Lone}
 use Rattle.bch.specs.NearCodeword.{Near, found, none, nearOf}
+use Rattle.bch.specs.Promise.{mendedAt}
+use Rattle.bch.specs.declared.Mended.{Mended}
+use Rattle.tps.specs.declared.inner.WordRead.{WordRead}
+use Rattle.tps.specs.declared.inner.WordRead.the-variants.{Known, Reserved}
 use Rattle.tps.specs.declared.word.TpsWord.{TpsWord}
 use Rattle.tps.specs.declared.word.Unpacked.{Unpacked}
 use Rattle.tps.specs.declared.word.Unpacked.the-variants.{Word, Refused}
@@ -32,9 +36,9 @@ packLeaves w out = fillLeaves SYMBOLS (wordBits w) out
 
 -- ---- unpacking
 
--- document 01's number and the word, for each case of an answer: no two answers say the same
-abbrev pub unpackedSays : Unpacked → ℕ × List TpsWord
-unpackedSays (Word w) = (ACCEPTED, w ∷ [])
+-- document 01's number, and the word with its mended bits, for each case of an answer: no two answers say the same
+abbrev pub unpackedSays : Unpacked → ℕ × List (TpsWord × Mended)
+unpackedSays (Word w m) = (ACCEPTED, (w, m) ∷ [])
 unpackedSays (Refused k) = (k, [])
 
 abbrev pub numberOf : Unpacked → ℕ
@@ -48,12 +52,22 @@ unpackNo bits =
     ∷ not (areBits bits) gives NOT-A-BIT
     ∷ [])
 
--- there is a codeword within distance two of the bits s1..s67: the answer is what its information says
+-- the answer by what codes say, with the mended bits
+abbrev pub unpackedBy : WordRead → Mended → Unpacked
+unpackedBy (Known w) m = Word w m
+unpackedBy Reserved m = Refused RESERVED
+
+-- the answer to the bits s1..s67 that are read as a codeword: what its information says, and the places, from 0 for s1
+-- to 66 for s67, at which they differ
+abbrev pub readAs : List ℕ → List ℕ → Unpacked
+readAs word bits = unpackedBy (wordOf (codesIn (take 53 word))) (mendedAt (places 0 word bits))
+
+-- there is a codeword within distance two of the bits s1..s67: they are read as it
 pub record Received (bits : List ℕ) (answer : Unpacked) : Type 0 where
   pub word : List ℕ
   pub codeword : Codeword word
   pub near : distance word bits ≤ 2
-  pub says : answer ≡ wordOf (codesIn (take 53 word))
+  pub says : answer ≡ readAs word bits
 
 -- the answer to 68 bits, of which s0 is ignored: that of a codeword within distance two, or NO WORD and there is none
 abbrev pub UnpacksBy : ℕ → List ℕ → Unpacked → Type 0
@@ -66,11 +80,11 @@ Unpacks bits answer = UnpacksBy (unpackNo bits) bits answer
 
 -- ---- the one answer that meets it, as a function
 
--- the answer to the codeword within distance two of s1..s67, or that there is none
-abbrev pub nearAnswer : Near → Unpacked
-nearAnswer (found c) = wordOf (codesIn (take 53 c))
-nearAnswer none = Refused NO-WORD
+-- the answer to s1..s67 by the codeword within distance two of them, or that there is none
+abbrev pub nearAnswer : Near → List ℕ → Unpacked
+nearAnswer (found c) bits = readAs c bits
+nearAnswer none bits = Refused NO-WORD
 
 -- the answer to the bits s0..s67
 unfoldable pub unpackAnswer : List ℕ → Unpacked
-unpackAnswer bits = kept (unpackNo bits) (nearAnswer (nearOf (drop 1 bits))) (Refused (unpackNo bits))
+unpackAnswer bits = kept (unpackNo bits) (nearAnswer (nearOf (drop 1 bits)) (drop 1 bits)) (Refused (unpackNo bits))

@@ -11,7 +11,6 @@ use super::TPS_SYMBOLS_PER_FRAME;
 use super::word::GuardInterval;
 use super::word::PunctureRate;
 use super::word::TpsWord;
-use super::word::Unpacked;
 use carriers::TPS_CARRIER_COUNT;
 use ground::Cell;
 use ground::ConstellationOrder;
@@ -40,6 +39,12 @@ enum RateRead {
 // What a guard code says.
 enum GuardRead {
     Known(GuardInterval),
+    Reserved,
+}
+
+// What the codes of a word say.
+pub enum WordRead {
+    Known(TpsWord),
     Reserved,
 }
 
@@ -136,21 +141,21 @@ pub fn codes_of(word: TpsWord) -> Codes
     }
 }
 
-// The word that codes say, or RESERVED where one of them stands for nothing.
-pub fn word_of(codes: Codes) -> Unpacked
+// The word that codes say; they are reserved where one of them stands for nothing.
+pub fn word_of(codes: Codes) -> WordRead
     ensures { λ r. ⌜ r ≡ wordOf codes ⌝ }
 {
     let ConstellationRead::Known(constellation) = constellation_from_code(codes.constellation)
     else {
-        return Unpacked::Refused(ground::RESERVED);
+        return WordRead::Reserved;
     };
     let RateRead::Known(code_rate_hp) = rate_from_code(codes.rate) else {
-        return Unpacked::Refused(ground::RESERVED);
+        return WordRead::Reserved;
     };
     let GuardRead::Known(guard) = guard_from_code(codes.guard) else {
-        return Unpacked::Refused(ground::RESERVED);
+        return WordRead::Reserved;
     };
-    Unpacked::Word(TpsWord {
+    WordRead::Known(TpsWord {
         frame_number: codes.frame,
         constellation,
         code_rate_hp,

@@ -9,6 +9,9 @@ ghost use Rattle.tps.specs.Packing.{packAnswer, packLeaves, Unpacks};
 use super::TPS_SYMBOLS_PER_FRAME;
 use super::inner;
 use super::inner::Codes;
+use super::inner::WordRead;
+use bch::Decoded;
+use bch::Mended;
 use ground::ConstellationOrder;
 use ground::Counted;
 
@@ -38,9 +41,9 @@ pub struct TpsWord {
     pub cell_id: u8,
 }
 
-// A word, or the refusal's number.
+// A word and the bits of s1..s67 that were changed to read it, place i being s(i+1), or the refusal's number.
 pub enum Unpacked {
-    Word(TpsWord),
+    Word(TpsWord, Mended),
     Refused(u8),
 }
 
@@ -107,7 +110,7 @@ impl TpsWord {
         Counted::Count(TPS_SYMBOLS_PER_FRAME)
     }
 
-    // The word of the codeword within distance two of s1..s67 (EN 300 744, 4.6.2).
+    // The word of the codeword within distance two of s1..s67, and the bits that were changed (EN 300 744, 4.6.2).
     pub fn unpack(bits: &[u8]) -> Unpacked
         ensures { λ r. ⌜ Unpacks (now (bits .entry)) r ⌝ }
     {
@@ -122,9 +125,12 @@ impl TpsWord {
             return Unpacked::Refused(ground::NOT_A_BIT);
         }
         let mut information = [0u8; 53];
-        let Counted::Count(_) = bch::tps_bch_decode(code, &mut information) else {
+        let Decoded::Information(mended) = bch::tps_bch_decode(code, &mut information) else {
             return Unpacked::Refused(ground::NO_WORD);
         };
-        inner::word_of(read_codes(&information))
+        let WordRead::Known(word) = inner::word_of(read_codes(&information)) else {
+            return Unpacked::Refused(ground::RESERVED);
+        };
+        Unpacked::Word(word, mended)
     }
 }

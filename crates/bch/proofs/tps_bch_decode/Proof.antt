@@ -61,19 +61,22 @@ put-information-requires c κs =
     let b = sym (c .before .before .before .before .before .all-bits .ensures) ∙ not-false (c .before .before .before .before .before .all-bits .result) (c .before .before .before .before .if2 .left) in
     (bits-of (z .args .code .now) b, c .before .before .before .before .before .before .if1 .left, length-take-le 53 (z .args .out .now) (c .before .before .before .if3 .left))
 
+mended-at-requires : tie.Need-mended-at-requires
+mended-at-requires c κs = search needs
+
 same-length : tie.Need-same-length
 same-length c = search needs
 
 returns-5 : tie.Need-returns-5
 returns-5 c =
-    let z = c .before .before .before .before .before .before .before .before .before .before .before .before in
-    let b = sym (c .before .before .before .before .before .before .before .before .all-bits .ensures) ∙ not-false (c .before .before .before .before .before .before .before .before .all-bits .result) (c .before .before .before .before .before .before .before .if2 .left) in
+    let z = c .before .before .before .before .before .before .before .before .before .before .before .before .before in
+    let b = sym (c .before .before .before .before .before .before .before .before .before .all-bits .ensures) ∙ not-false (c .before .before .before .before .before .before .before .before .before .all-bits .result) (c .before .before .before .before .before .before .before .before .if2 .left) in
     let w = z .args .code .now in
     let o = z .args .out .now in
-    let l = c .before .before .before .before .before .before .before .before .before .if1 .left in
-    let f = c .before .before .before .before .before .changes in
-    decode-found w o (f .result) (c .before .before .put-information .last .1 .1 .0) (accepted 67 53 w o l b (c .before .before .before .before .before .before .if3 .left)) (bits-of w b) l
-    (f .ensures) (not-no-word (f .result) (c .before .before .before .before .match .keys2)) (c .before .before .put-information .ensures)
+    let l = c .before .before .before .before .before .before .before .before .before .before .if1 .left in
+    let f = c .before .before .before .before .before .before .changes in
+    decode-found w o (f .result) (c .mended-at .result) (c .before .before .before .put-information .last .1 .1 .0) (accepted 67 53 w o l b (c .before .before .before .before .before .before .before .if3 .left)) (bits-of w b) l
+    (f .ensures) (not-no-word (f .result) (c .before .before .before .before .before .match .keys2)) (c .mended-at .ensures) (c .before .before .before .put-information .ensures)
 
 pub tps-bch-decode-spec : {M : Type 1} → statement M
 tps-bch-decode-spec =
@@ -89,5 +92,6 @@ tps-bch-decode-spec =
     slice-relend-prefix-put-information
     slice-aggregate-put-information
     put-information-requires
+    mended-at-requires
     same-length
     returns-5)

@@ -8,7 +8,7 @@ use Rattle.report.proofs.put_heading.Tie as tie
 
 returns : tie.Need-returns
 unfolding heading
-returns c = text-refused 34 heading (c .before .before .args .out .now) (c .if1 .taken)
+returns c = text-refused 41 heading (c .before .before .args .out .now) (c .if1 .taken)
 
 slice-aggregate-put : tie.Need-slice-aggregate-put
 slice-aggregate-put c = search needs
@@ -24,7 +24,7 @@ unfolding heading
 returns-2 c =
     let p = c .before .before .put in
     let i = c .before .before .before .before .before in
-    text-written 34 heading (i .before .before .args .out .now) (p .result) (p .last .0) (i .if1 .left) (omega (arith, p .ensures .next)) (p .ensures)
+    text-written 41 heading (i .before .before .args .out .now) (p .result) (p .last .0) (i .if1 .left) (omega (arith, p .ensures .next)) (p .ensures)
 
 pub put-heading-spec : {M : Type 1} → statement M
 put-heading-spec =

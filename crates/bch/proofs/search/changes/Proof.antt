@@ -5,7 +5,7 @@ use native.Mathlib.Omega.{arith}
 use borrow.Author.Needs.{needs}
 use Rattle.bch.specs.Search.{Locates}
 use Rattle.bch.proofs.Generator.{remainder-lt}
-use Rattle.bch.proofs.Mended.{located-changes}
+use Rattle.bch.proofs.Flipped.{located-changes}
 use Rattle.bch.proofs.search.changes.Statement.{statement}
 use Rattle.bch.proofs.search.changes.Tie as tie
 

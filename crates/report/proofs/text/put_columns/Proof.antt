@@ -36,7 +36,7 @@ returns c =
     let guard = c-guard .put-column3 .ensures in (
       put-then (rw (c-points .before .points-column .ensures .0) at (points .0))
           (put-then (rw (c-rate .before .rate-column .ensures .0) at (rate .0)) (rw (c-guard .before .guard-column .ensures .0) at (guard .0))),
-      omega (arith, points .1, rate .1, guard .1),
+      omega (arith, points .1, rate .1, guard .1, c-points .before .points-column .ensures .1, c-rate .before .rate-column .ensures .1, c-guard .before .guard-column .ensures .1),
     )
 
 pub put-columns-spec : {M : Type 1} → statement M

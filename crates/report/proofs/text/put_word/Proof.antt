@@ -25,8 +25,8 @@ put-decimal-requires-2 c κs = search needs
 put-columns-requires : tie.Need-put-columns-requires
 put-columns-requires c κs = search needs
 
-put-cell-requires : tie.Need-put-cell-requires
-put-cell-requires c κs = search needs
+put-cell-and-mended-requires : tie.Need-put-cell-and-mended-requires
+put-cell-and-mended-requires c κs = search needs
 
 same-length : tie.Need-same-length
 same-length c = search needs
@@ -34,17 +34,17 @@ same-length c = search needs
 returns : tie.Need-returns
 unfolding lineText
 returns c =
-    let c-cell = c .before .before in
-    let c-columns = c-cell .before .before .before .before in
+    let c-last = c .before .before in
+    let c-columns = c-last .before .before .before .before in
     let c-frame = c-columns .before .before .before .before in
     let c-space = c-frame .before .before .before .before .before in
     let number = c-space .before .before .before .before .before .put-decimal .ensures in
     let space = c-space .put .ensures in
     let frame = c-frame .put-decimal2 .ensures in
     let columns = c-columns .put-columns .ensures in
-    let cell = c-cell .put-cell .ensures in (
-      put-then (number .0) (put-then (put-then space (frame .0)) (simp append-assoc at (put-then (columns .0) (cell .0)))),
-      omega (arith, number .1, space .next, frame .1, columns .1, cell .1),
+    let last = c-last .put-cell-and-mended .ensures in (
+      put-then (number .0) (put-then (put-then space (frame .0)) (simp append-assoc at (put-then (columns .0) (last .0)))),
+      omega (arith, number .1, space .next, frame .1, columns .1, last .1),
     )
 
 pub put-word-spec : {M : Type 1} → statement M
@@ -57,6 +57,6 @@ put-word-spec =
     cast-put-decimal
     put-decimal-requires-2
     put-columns-requires
-    put-cell-requires
+    put-cell-and-mended-requires
     same-length
     returns)

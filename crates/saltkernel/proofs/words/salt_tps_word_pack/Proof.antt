@@ -2,10 +2,10 @@
 -- numbers say what the library function answers. Assumes nothing.
 use mathlib.Core.Path.{_≡_, refl, sym, ap, _∙_}
 use Rattle.ground.specs.Answer.{kept, written, fillNo}
-use Rattle.tps.specs.declared.word.Unpacked.{Unpacked}
-use Rattle.tps.specs.declared.word.Unpacked.the-variants.{Word}
+use Rattle.tps.specs.declared.inner.WordRead.{WordRead}
+use Rattle.tps.specs.declared.inner.WordRead.the-variants.{Known}
 use Rattle.saltkernel.specs.Numbers.{Says}
-use Rattle.saltkernel.specs.Words.{wordIn, refused, bitsIn}
+use Rattle.saltkernel.specs.Words.{wordIn, isReserved, bitsIn}
 use Rattle.saltkernel.proofs.Numbers.{says-equal}
 use Rattle.saltkernel.proofs.WordCodes.{codes-short, codes-reserved, codes-answer, codes-leave}
 use borrow.Author.Needs.{needs}
@@ -15,7 +15,7 @@ use Rattle.saltkernel.proofs.words.salt_tps_word_pack.Tie as tie
 returns : tie.Need-returns
 returns c =
     let z = c .before .before .args in
-    rw (codes-short 68 (refused (wordIn (z .word))) (z .out .now) (c .if1 .taken)) (record { says-number = refl; says-count = refl }, refl)
+    rw (codes-short 68 (isReserved (wordIn (z .word))) (z .out .now) (c .if1 .taken)) (record { says-number = refl; says-count = refl }, refl)
 
 word-of-requires : tie.Need-word-of-requires
 word-of-requires c κs = search needs
@@ -30,8 +30,8 @@ returns-2 : tie.Need-returns-2
 returns-2 c =
     let w = c .before .before in
     let z = w .before .before .before .args in
-    let yes = ap refused (sym (w .word-of .ensures) ∙ c .enum-told .given .1) in
-    rw (codes-reserved 68 (refused (wordIn (z .word))) (z .out .now) (w .before .if1 .left) yes) (record { says-number = refl; says-count = refl }, refl)
+    let yes = ap isReserved (sym (w .word-of .ensures) ∙ c .enum-told .given .1) in
+    rw (codes-reserved 68 (isReserved (wordIn (z .word))) (z .out .now) (w .before .if1 .left) yes) (record { says-number = refl; says-count = refl }, refl)
 
 pack-requires : tie.Need-pack-requires
 pack-requires c κs = search needs
@@ -49,12 +49,12 @@ returns-3 c =
     let w = known .before .before in
     let z = w .before .before .before .args in
     let o = z .out .now in
-    let e : wordIn (z .word) ≡ Word (known .known .given .0 .0) = sym (w .word-of .ensures) ∙ known .known .given .1 in
-    let no = ap refused e in (
-      says-equal Says _ (f .result) _ (f .ensures .0 ∙ codes-answer 68 (refused (wordIn (z .word))) o no 68) (c .numbers-of .ensures),
+    let e : wordIn (z .word) ≡ Known (known .known .given .0 .0) = sym (w .word-of .ensures) ∙ known .known .given .1 in
+    let no = ap isReserved e in (
+      says-equal Says _ (f .result) _ (f .ensures .0 ∙ codes-answer 68 (isReserved (wordIn (z .word))) o no 68) (c .numbers-of .ensures),
       f .ensures .1
-          ∙ ap (λ (a : Unpacked). kept (fillNo 68 o) (written (bitsIn a) o) o) (sym e)
-          ∙ codes-leave 68 (refused (wordIn (z .word))) o no (written (bitsIn (wordIn (z .word))) o),
+          ∙ ap (λ (a : WordRead). kept (fillNo 68 o) (written (bitsIn a) o) o) (sym e)
+          ∙ codes-leave 68 (isReserved (wordIn (z .word))) o no (written (bitsIn (wordIn (z .word))) o),
     )
 
 pub salt-tps-word-pack-spec : {M : Type 1} → statement M

@@ -16,10 +16,10 @@ enum-known-answer-2 : tie.Need-enum-known-answer-2
 enum-known-answer-2 c = search needs
 
 returns : tie.Need-returns
-returns c = says-equal SaysUnpacked _ _ _ (sym (c .before .before .answer .given .1)) (record { says-number = refl; says-word = c .codes-of .ensures })
+returns c = says-equal SaysUnpacked _ _ _ (sym (c .before .before .answer .given .1)) (record { says-number = refl; says-word = c .codes-of .ensures; says-mended = refl })
 
 returns-2 : tie.Need-returns-2
-returns-2 c = says-equal SaysUnpacked _ _ _ (sym (c .before .answer2 .given .1)) (record { says-number = refl; says-word = refl })
+returns-2 c = says-equal SaysUnpacked _ _ _ (sym (c .before .answer2 .given .1)) (record { says-number = refl; says-word = refl; says-mended = refl })
 
 pub unpacked-numbers-of-spec : {M : Type 1} → statement M
 unpacked-numbers-of-spec =

@@ -4,7 +4,10 @@ use mathlib.Core.Path.{_≡_, sym, ap, _∙_}
 use mathlib.Core.Bool.{true}
 use lib.ListN.{length}
 use Rattle.ground.specs.Bits.{areBits}
+use Rattle.tps.specs.declared.inner.WordRead.{WordRead}
+use Rattle.tps.specs.declared.inner.WordRead.the-variants.{Known, Reserved}
 use Rattle.tps.specs.Codes.{wordOf}
+use Rattle.tps.specs.Packing.{unpackedBy, Unpacks}
 use Rattle.tps.proofs.Unpacking.{first-not-bit, rest-not-bits, all-bits, unpack-length, unpack-not-bit, unpack-no-word, information-bits, unpack-word}
 use borrow.Author.Tests.{not-true, not-false}
 use borrow.Author.Needs.{needs}
@@ -39,23 +42,32 @@ returns-4 c =
     let d = c .before .before .before in
     let z = d .before .before .before .before .before .before .before .before .before .args .bits .now in
     let r = d .tps-bch-decode in
-    unpack-no-word z (sized d) (bits d) (r .result) (r .last .1 .0) (r .ensures) (c .enum-told2 .given .0 .0) (c .enum-told2 .given .1)
+    unpack-no-word z (sized d) (bits d) (r .result) (r .last .1 .0) (r .ensures) (c .enum-told .given .0 .0) (c .enum-told .given .1)
 
 read-codes-requires : tie.Need-read-codes-requires
 read-codes-requires c κs =
-    let d = c .before .before .before .before in
+    let d = c .before .before .before .before .before in
     let z = d .before .before .before .before .before .before .before .before .before .args .bits .now in
     let r = d .tps-bch-decode in
-    information-bits z (sized d) (bits d) (r .result) (r .last .1 .0) (r .ensures) (c .before .enum-told .given .0 .0) (c .before .enum-told .given .1)
+    information-bits z (sized d) (bits d) (r .result) (r .last .1 .0) (r .ensures) _ (c .before .before .mended .given .1)
+
+-- once the codes are read, the answer is by what they say
+says : (c : tie.After-word-of) (x : WordRead) → c .word-of .result ≡ x
+    → Unpacks (c .before .before .before .before .before .before .before .before .before .before .before .before .before .before .before .before .args .bits .now)
+    (unpackedBy x (c .before .before .before .before .mended .given .0 .0))
+says c x e =
+    let d = c .before .before .before .before .before .before .before in
+    let z = d .before .before .before .before .before .before .before .before .before .args .bits .now in
+    let r = d .tps-bch-decode in
+    let t = c .before .before .before .before .mended .given in
+    unpack-word z (sized d) (bits d) (r .result) (r .last .1 .0) (r .ensures) (t .0 .0) (t .1) (unpackedBy x (t .0 .0))
+    (ap (λ (y : WordRead). unpackedBy y (t .0 .0)) (sym e ∙ c .word-of .ensures ∙ ap wordOf (c .before .read-codes .ensures)))
 
 returns-5 : tie.Need-returns-5
-returns-5 c =
-    let d = c .before .before .before .before .before .before in
-    let z = d .before .before .before .before .before .before .before .before .before .args .bits .now in
-    let r = d .tps-bch-decode in
-    let t = c .before .before .before .enum-told .given in
-    unpack-word z (sized d) (bits d) (r .result) (r .last .1 .0) (r .ensures) (t .0 .0) (t .1)
-    (c .word-of .result) (c .word-of .ensures ∙ ap wordOf (c .before .read-codes .ensures))
+returns-5 c = says (c .before .before) Reserved (c .enum-told2 .given .1)
+
+returns-6 : tie.Need-returns-6
+returns-6 c = says (c .before .before .before) (Known (c .before .word .given .0 .0)) (c .before .word .given .1)
 
 pub unpack-spec : {M : Type 1} → statement M
 unpack-spec =
@@ -77,4 +89,7 @@ unpack-spec =
     (λ c. search needs)
     read-codes-requires
     (λ c κs. search needs)
-    returns-5)
+    (λ c. search needs)
+    (λ c. search needs)
+    returns-5
+    returns-6)

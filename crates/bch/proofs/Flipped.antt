@@ -15,7 +15,7 @@ use lib.Seq.{take-set-lt, take-set-le, set-out, getD-take}
 use borrow.Author.Tests.{eq-eqb, ne-eqb}
 use Rattle.ground.specs.Bits.{Bits}
 use Rattle.bch.specs.Code.{remainderOf, Codeword, places, Lone}
-use Rattle.bch.specs.Search.{added, Rising, Locates, flip, mended, Changes, NoPattern}
+use Rattle.bch.specs.Search.{added, Rising, Locates, flip, mended, named, Changes, NoPattern}
 use Rattle.bch.specs.declared.search.Found.{Found}
 use Rattle.bch.specs.declared.search.Found.the-variants.{One, Clean, Two, NoWord}
 use Rattle.bch.proofs.Places.{placed, places-self, places-rising, remainder-places}
@@ -68,13 +68,6 @@ flips-places k (y ∷ ys) (suc i) (suc j) hb l h =
     ∙ ap₂ (λ (m n : ℕ). m ∷ n ∷ []) (suc-add k i ∙ sym (add-suc k i)) (suc-add k j ∙ sym (add-suc k j))
 
 -- ---- a word mended
-
--- the places that an answer of the search names
-abbrev pub named : Found → List ℕ
-named Clean = []
-named (One i) = i ∷ []
-named (Two i j) = i ∷ j ∷ []
-named NoWord = []
 
 pub mended-length : (w : List ℕ) (r : Found) → length (mended w r) ≡ length w
 mended-length w Clean = refl
