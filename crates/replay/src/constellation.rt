@@ -1,7 +1,6 @@
 // The cases of gray mapping and demapping.
 ghost use Prim.Native.Nat.{_≤_};
 ghost use lib.ListN.{length};
-use crate::floats;
 use crate::table;
 use gray::Mapped;
 use gray::Soft;
@@ -11,7 +10,7 @@ use ground::Counted;
 // dvb_t_map_symbol.
 pub(crate) fn map(input: &[u8], room: &mut [u8; 16384]) -> Counted {
     match gray::dvb_t_map_symbol(input) {
-        Mapped::Point(re, im) => floats::put(&[re, im], 0, room),
+        Mapped::Point(re, im) => stored::inner::lay_floats(&[re, im], 0, room),
         Mapped::Refused(number) => Counted::Refused(number),
     }
 }
@@ -21,8 +20,8 @@ fn cell_of(input: &[u8]) -> Cell
     requires { ⌜ 8 ≤ length (now input) ⌝ }
 {
     Cell {
-        re: floats::float_at(input, 0),
-        im: floats::float_at(input, 4),
+        re: stored::inner::float_at(input, 0),
+        im: stored::inner::float_at(input, 4),
     }
 }
 
@@ -37,9 +36,9 @@ pub(crate) fn demap(v: usize, input: &[u8], room: &mut [u8; 16384]) -> Counted {
 // Lays soft values.
 fn put_soft(answer: Soft, room: &mut [u8; 16384]) -> Counted {
     match answer {
-        Soft::Two(a, b) => floats::put(&[a, b], 0, room),
-        Soft::Four(a, b, c, d) => floats::put(&[a, b, c, d], 0, room),
-        Soft::Six(a, b, c, d, e, f) => floats::put(&[a, b, c, d, e, f], 0, room),
+        Soft::Two(a, b) => stored::inner::lay_floats(&[a, b], 0, room),
+        Soft::Four(a, b, c, d) => stored::inner::lay_floats(&[a, b, c, d], 0, room),
+        Soft::Six(a, b, c, d, e, f) => stored::inner::lay_floats(&[a, b, c, d, e, f], 0, room),
         Soft::Refused(number) => Counted::Refused(number),
     }
 }

@@ -7,7 +7,6 @@ use libc::STDIN_FILENO;
 use libc::STDOUT_FILENO;
 
 mod constellation;
-mod floats;
 mod line;
 mod packets;
 mod sessions;
@@ -36,7 +35,7 @@ fn tally(list: &[u8]) -> [u64; 20] {
     let mut at: u64 = 0;
     let mut from = 0;
     while from < list.len() {
-        let to = line::end_of(list, from);
+        let to = stored::inner::end_of(list, from);
         at = std::num::wrapping_add_u64(at, 1);
         let row = line::row_of(&list[from..to]);
         lines[row] = std::num::wrapping_add_u64(lines[row], 1);

@@ -4,29 +4,17 @@ ghost use lib.ListN.{length};
 use dispersal::DvbTEnergyDispersal;
 use ground::Counted;
 
-// Lays bytes at a place of the room, and counts to their end.
-pub(crate) fn put(bytes: &[u8], at: usize, room: &mut [u8; 16384]) -> Counted
-    requires { ⌜ at + length (now bytes) ≤ 16384 ⌝ }
-{
-    let mut i = 0;
-    while i < bytes.len() {
-        room[at + i] = bytes[i];
-        i += 1;
-    }
-    Counted::Count(at + i)
-}
-
 // ts_null_packet.
 pub(crate) fn null(room: &mut [u8; 16384]) -> Counted {
     let packet = ts::ts_null_packet();
-    put(&packet, 0, room)
+    stored::inner::lay(&packet, 0, room)
 }
 
 // ts_stuff_null_packets.
 pub(crate) fn stuff(target: usize, input: &[u8], room: &mut [u8; 16384]) -> Counted
     requires { ⌜ length (now input) ≤ 16384 ⌝ }
 {
-    put(input, 0, room);
+    stored::inner::lay(input, 0, room);
     ts::ts_stuff_null_packets(room, input.len(), target)
 }
 
@@ -41,7 +29,7 @@ fn disperse_first(n: usize, bytes: &mut [u8])
 pub(crate) fn disperse(input: &[u8], room: &mut [u8; 16384]) -> Counted
     requires { ⌜ length (now input) ≤ 16384 ⌝ }
 {
-    let laid = put(input, 0, room);
+    let laid = stored::inner::lay(input, 0, room);
     disperse_first(input.len(), room);
     laid
 }

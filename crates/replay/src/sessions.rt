@@ -1,9 +1,6 @@
 // The case of the receive session: a script of calls on a new session, a byte each, where 255 resets, 254 steps back,
 // and any lower byte feeds the symbol of its number. The answer is what the last feed gives, which is its data, its
 // phase, its bit and how many symbols stand, and all bits.
-use crate::floats;
-use crate::packets;
-use crate::symbols;
 use ground::Counted;
 use session::Session;
 use tps::TpsBit;
@@ -14,7 +11,7 @@ fn put_fed(phase: usize, answer: TpsBit, standing: usize, room: &mut [u8; 16384]
         TpsBit::Bit(bit) => bit,
         TpsBit::Refused(_) => 255,
     };
-    packets::put(
+    stored::inner::lay(
         &[(phase % 256) as u8, bit, (standing % 256) as u8],
         12096,
         room,
@@ -28,12 +25,12 @@ fn fed(
     journal: &mut [f32; session::JOURNAL_FLOATS],
     room: &mut [u8; 16384],
 ) -> Session {
-    let symbol = symbols::symbol_of(number);
+    let symbol = stored::inner::symbol_of(number);
     let mut data = [0.5f32; carriers::DATA_FLOATS];
     let fed = session.feed(&symbol, &mut data, journal);
     let answer = fed.answer;
     let after = fed.session;
-    floats::put(&data, 0, room);
+    stored::inner::lay_floats(&data, 0, room);
     put_fed(session.phase(), answer, after.count, room);
     after
 }
@@ -58,7 +55,7 @@ fn called(
 
 // Lays all bits.
 fn put_bits(bits: [u8; 68], room: &mut [u8; 16384]) -> Counted {
-    packets::put(&bits, 12099, room)
+    stored::inner::lay(&bits, 12099, room)
 }
 
 // Session.

@@ -1,7 +1,6 @@
 // The cases of TPS's sender and receiver: the 17 cells of a symbol stand as 34 floats, re and im of each in turn.
 ghost use Prim.Native.Nat.{_+_, _*_, _≤_, _<_};
 ghost use lib.ListN.{length};
-use crate::floats;
 use crate::table;
 use ground::Counted;
 use tps::TpsDecoder;
@@ -13,7 +12,7 @@ fn sent(encoder: TpsEncoder, bit: u8, k: usize, room: &mut [u8; 16384]) -> TpsEn
 {
     let mut cells = [0.5f32; 34];
     let sent = encoder.next_symbol(bit, &mut cells);
-    floats::put(&cells, 136 * k, room);
+    stored::inner::lay_floats(&cells, 136 * k, room);
     let after = sent.encoder;
     after
 }
@@ -36,7 +35,7 @@ pub(crate) fn send(input: &[u8], room: &mut [u8; 16384]) -> Counted {
 fn fed(decoder: TpsDecoder, input: &[u8], k: usize) -> TpsDecoder
     requires { ⌜ 136 * k + 136 ≤ length (now input) ⌝ }
 {
-    let cells = floats::floats_at(input, 136 * k);
+    let cells = stored::inner::floats_at(input, 136 * k);
     let fed = decoder.feed_symbol(&cells);
     let after = fed.decoder;
     after

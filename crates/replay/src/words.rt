@@ -2,7 +2,6 @@
 // constellation, rate and guard by their codes, and cell id.
 ghost use mathlib.Core.Path.{_≡_};
 ghost use lib.ListN.{length};
-use crate::packets;
 use crate::table;
 use bch::Decoded;
 use ground::Counted;
@@ -52,7 +51,7 @@ fn put_codes(codes: Codes, room: &mut [u8; 16384]) -> Counted {
         codes.guard,
         codes.cell,
     ];
-    packets::put(&bytes, 0, room)
+    stored::inner::lay(&bytes, 0, room)
 }
 
 // TpsWord::unpack.

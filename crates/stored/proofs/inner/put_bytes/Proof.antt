@@ -1,8 +1,8 @@
--- `replay::line::put_bytes` is safe and ends, and its answer lies within the slice. Assumes nothing.
+-- `stored::inner::put_bytes` is safe and ends, and its answer lies within the slice. Assumes nothing.
 use Prim.Native.Nat.{_-_, _≤_}
 use borrow.Author.Needs.{needs}
-use Rattle.replay.proofs.line.put_bytes.Statement.{statement}
-use Rattle.replay.proofs.line.put_bytes.Tie as tie
+use Rattle.stored.proofs.inner.put_bytes.Statement.{statement}
+use Rattle.stored.proofs.inner.put_bytes.Tie as tie
 
 pub put-bytes-spec : {M : Type 1} → statement M
 put-bytes-spec =

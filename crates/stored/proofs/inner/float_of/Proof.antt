@@ -1,4 +1,4 @@
--- `replay::floats::float_of` is safe and ends. Assumes nothing.
+-- `stored::inner::float_of` is safe and ends. Assumes nothing.
 use mathlib.Core.Path.{sym, _∙_, subst}
 use mathlib.Core.Bool.{not}
 use lib.Dec.{T}
@@ -6,8 +6,8 @@ use lib.Ieee.{binary32}
 use lib.Ieee.Bits.{nanBits-above}
 use borrow.Author.Tests.{le-ltb}
 use borrow.Author.Needs.{needs}
-use Rattle.replay.proofs.floats.float_of.Statement.{statement}
-use Rattle.replay.proofs.floats.float_of.Tie as tie
+use Rattle.stored.proofs.inner.float_of.Statement.{statement}
+use Rattle.stored.proofs.inner.float_of.Tie as tie
 
 pub float-of-spec : {M : Type 1} → statement M
 float-of-spec =

@@ -1,11 +1,11 @@
--- `replay::floats::put` is safe and ends. Assumes nothing.
+-- `stored::inner::lay_floats` is safe and ends. Assumes nothing.
 use Prim.Native.Nat.{_-_, _≤_}
 use borrow.Author.Needs.{needs}
-use Rattle.replay.proofs.floats.put.Statement.{statement}
-use Rattle.replay.proofs.floats.put.Tie as tie
+use Rattle.stored.proofs.inner.lay_floats.Statement.{statement}
+use Rattle.stored.proofs.inner.lay_floats.Tie as tie
 
-pub put-spec : {M : Type 1} → statement M
-put-spec =
+pub lay-floats-spec : {M : Type 1} → statement M
+lay-floats-spec =
     tie.close
     (tie.spec
     (λ floats at room₀ n i₀ room i. i ≤ n)

@@ -1,8 +1,8 @@
--- `replay::floats::floats_at` is safe and ends. Assumes nothing.
+-- `stored::inner::floats_at` is safe and ends. Assumes nothing.
 use Prim.Native.Nat.{_-_, _≤_}
 use borrow.Author.Needs.{needs}
-use Rattle.replay.proofs.floats.floats_at.Statement.{statement}
-use Rattle.replay.proofs.floats.floats_at.Tie as tie
+use Rattle.stored.proofs.inner.floats_at.Statement.{statement}
+use Rattle.stored.proofs.inner.floats_at.Tie as tie
 
 pub floats-at-spec : {M : Type 1} → statement M
 floats-at-spec =

@@ -1,9 +1,9 @@
--- `replay::line::end_of` is safe and ends, and its answer lies between `from` and the end. Assumes nothing.
+-- `stored::inner::end_of` is safe and ends, and its answer lies between `from` and the end. Assumes nothing.
 use Prim.Native.Nat.{_-_, _≤_}
 use lib.ListN.{length}
 use borrow.Author.Needs.{needs}
-use Rattle.replay.proofs.line.end_of.Statement.{statement}
-use Rattle.replay.proofs.line.end_of.Tie as tie
+use Rattle.stored.proofs.inner.end_of.Statement.{statement}
+use Rattle.stored.proofs.inner.end_of.Tie as tie
 
 pub end-of-spec : {M : Type 1} → statement M
 end-of-spec =

@@ -1,12 +1,12 @@
--- `replay::packets::put` is safe and ends. Assumes nothing.
+-- `stored::inner::lay` is safe and ends. Assumes nothing.
 use Prim.Native.Nat.{_-_, _≤_}
 use lib.ListN.{length}
 use borrow.Author.Needs.{needs}
-use Rattle.replay.proofs.packets.put.Statement.{statement}
-use Rattle.replay.proofs.packets.put.Tie as tie
+use Rattle.stored.proofs.inner.lay.Statement.{statement}
+use Rattle.stored.proofs.inner.lay.Tie as tie
 
-pub put-spec : {M : Type 1} → statement M
-put-spec =
+pub lay-spec : {M : Type 1} → statement M
+lay-spec =
     tie.close
     (tie.spec
     (λ bytes at room₀ i₀ room i. i ≤ length bytes)

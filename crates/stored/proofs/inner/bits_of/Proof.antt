@@ -1,9 +1,9 @@
--- `replay::floats::bits_of` is safe and ends. Assumes nothing.
+-- `stored::inner::bits_of` is safe and ends. Assumes nothing.
 use mathlib.Core.Bool.{false}
 use Rattle.ground.proofs.Floats.{nan-by}
 use borrow.Author.Needs.{needs}
-use Rattle.replay.proofs.floats.bits_of.Statement.{statement}
-use Rattle.replay.proofs.floats.bits_of.Tie as tie
+use Rattle.stored.proofs.inner.bits_of.Statement.{statement}
+use Rattle.stored.proofs.inner.bits_of.Tie as tie
 
 pub bits-of-spec : {M : Type 1} → statement M
 bits-of-spec =

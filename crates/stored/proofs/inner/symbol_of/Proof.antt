@@ -1,8 +1,8 @@
--- `replay::symbols::symbol_of` is safe and ends. Assumes nothing.
+-- `stored::inner::symbol_of` is safe and ends. Assumes nothing.
 use Prim.Native.Nat.{_-_, _≤_}
 use borrow.Author.Needs.{needs}
-use Rattle.replay.proofs.symbols.symbol_of.Statement.{statement}
-use Rattle.replay.proofs.symbols.symbol_of.Tie as tie
+use Rattle.stored.proofs.inner.symbol_of.Statement.{statement}
+use Rattle.stored.proofs.inner.symbol_of.Tie as tie
 
 pub symbol-of-spec : {M : Type 1} → statement M
 symbol-of-spec =

@@ -1,0 +1,2 @@
+// Stored answers of orion-sdr, as the program replay reads them.
+pub mod inner;
