@@ -90,7 +90,7 @@ def arguments():
     parser.add_argument("second", type=pathlib.Path)
     parser.add_argument("--reasons", action="store_true")
     parser.add_argument("crates", nargs="*", metavar="NAME", choices=[[], *second.crates()])
-    return parser.parse_args()
+    return parser.parse_intermixed_args()
 
 
 def main():
