@@ -18,7 +18,8 @@ use Rattle.gray.specs.Hard.{distance, Wrote}
 
 -- what mapping answers at a constellation whose group size the bits have
 abbrev pub mapAnswerAt : ConstellationOrder → List ℕ → Mapped
-mapAnswerAt o bits = mapped (firstOf (not (areBits bits) gives NOT-A-BIT ∷ [])) (at o (index o 0 bits)) (at o (index o 1 bits))
+mapAnswerAt o bits =
+    mapped (firstOf (not (areBits bits) gives NOT-A-BIT ∷ [])) (at o (index o 0 bits)) (at o (index o 1 bits))
 
 -- the output after demapping at a constellation: written where it has room, else unchanged
 abbrev pub DemappedAt : ConstellationOrder → Cell → List ℕ → List ℕ → Type 0

@@ -32,8 +32,10 @@ Above N n = 4 * 2 ^ 298 < n * n * N
 -- cut to 0 where it is negative.
 abbrev pub Nearer : ℕ → ℕ → ℕ → Type 0
 Nearer N b c =
-    cond (leb 0x8000_0000 c) (Below N (units b - units (c - 0x8000_0000))) (cond (ltb c b) (Below N (units b + units c)) (Above N (units b + units c)))
+    cond (leb 0x8000_0000 c) (Below N (units b - units (c - 0x8000_0000)))
+    (cond (ltb c b) (Below N (units b + units c)) (Above N (units b + units c)))
 
 -- of all the finite f32, that of the pattern b is the one nearest to 1/√N
 abbrev pub Nearest : ℕ → ℕ → Type 0
-Nearest N b = (y : Float) → T (fits binary32 y) → T (finite y) → (y ≡ ofBits binary32 b → ⊥) → Nearer N b (toBits binary32 y)
+Nearest N b =
+    (y : Float) → T (fits binary32 y) → T (finite y) → (y ≡ ofBits binary32 b → ⊥) → Nearer N b (toBits binary32 y)

@@ -66,7 +66,8 @@ abbrev pub softAt : ConstellationOrder → Cell → Soft
 softAt Qpsk c = Two (soft Qpsk 0 (c .re)) (soft Qpsk 0 (c .im))
 softAt Qam16 c = Four (soft Qam16 1 (c .re)) (soft Qam16 1 (c .im)) (soft Qam16 0 (c .re)) (soft Qam16 0 (c .im))
 softAt Qam64 c =
-    Six (soft Qam64 2 (c .re)) (soft Qam64 2 (c .im)) (soft Qam64 1 (c .re)) (soft Qam64 1 (c .im)) (soft Qam64 0 (c .re)) (soft Qam64 0 (c .im))
+    Six (soft Qam64 2 (c .re)) (soft Qam64 2 (c .im)) (soft Qam64 1 (c .re)) (soft Qam64 1 (c .im))
+    (soft Qam64 0 (c .re)) (soft Qam64 0 (c .im))
 
 -- document 01's number and the values, for each case of the answer
 abbrev pub softNumberOf : Soft → ℕ

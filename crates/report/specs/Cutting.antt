@@ -10,7 +10,8 @@ use Rattle.ground.specs.declared.Counted.{Counted}
 use Rattle.report.specs.declared.Reader.{Reader}
 use Rattle.report.specs.declared.Fed.{Fed}
 use Rattle.report.specs.Stream.{fresh}
-use Rattle.report.specs.Calls.{headingAnswer, headingLeaves, feedNo, feedAnswer, feedLeaves, closeAnswer, closeLeaves}
+use Rattle.report.specs.Calls.{headingAnswer, headingLeaves, feedNo, feedAnswer, feedLeaves, closeAnswer}
+use Rattle.report.specs.Calls.{closeLeaves}
 
 -- what a call wrote that answered so and left its output so: as many bytes as it says, and none where it was refused
 abbrev pub writtenBy : Counted → List ℕ → List ℕ

@@ -162,8 +162,8 @@ pub fn lay(bytes: &[u8], at: usize, room: &mut [u8; 16384]) -> Counted
     Counted::Count(at + i)
 }
 
-// ---- symbols, which come of a rule, so that none is stored: float j of symbol k is 4096 k + j, with a minus where k leaves
-// 1 on division by 3
+// ---- symbols, which come of a rule, so that none is stored: float j of symbol k is 4096 k + j, with a minus where k
+// leaves 1 on division by 3
 
 // A float of a symbol by the rule.
 fn ruled(symbol: u8, place: u16) -> f32 {

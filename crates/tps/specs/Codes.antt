@@ -77,7 +77,8 @@ codesOf w =
 -- the word that codes say with what three of them stand for, reserved where one of these stands for nothing
 abbrev pub wordBy : Codes → ConstellationRead → RateRead → GuardRead → WordRead
 wordBy k (constellation.Known c) (rate.Known r) (guard.Known g) =
-    word.Known (record { «frame_number» = k .frame; constellation = c; «code_rate_hp» = r; guard = g; «cell_id» = k .cell })
+    word.Known
+    (record { «frame_number» = k .frame; constellation = c; «code_rate_hp» = r; guard = g; «cell_id» = k .cell })
 wordBy k (constellation.Known c) (rate.Known r) guard.Reserved = word.Reserved
 wordBy k (constellation.Known c) rate.Reserved g = word.Reserved
 wordBy k constellation.Reserved r g = word.Reserved
