@@ -1,13 +1,15 @@
 -- The bits that a receiver holds: one more, and all 68; what a call for them answers, and what one for the word does.
 -- Assumes nothing.
 use mathlib.Core.Path.{_≡_, refl, sym, ap, ap₂, _∙_, subst}
+use mathlib.Core.Bool.{Bool, true, false, cond}
 use mathlib.Core.List.{List, [], _∷_, _++_, map, map-append, append-nil}
-use Prim.Native.Nat.{ℕ, suc, _+_, _-_, _<_, _≤_, min}
+use Prim.Native.Nat.{ℕ, suc, _+_, _-_, _<_, _≤_, min, _/_}
 use native.Mathlib.Numerals.{add-one}
 use native.Mathlib.Omega.{arith}
-use lib.ListN.{length, getD, take, drop, set, replicate, length-append, length-take, length-map, length-replicate, length-set}
-use lib.Seq.{take-suc, take-all, take-at, take-set-le, getD-set-same, length-take-le, set-at, append-snoc}
-use borrow.Author.Tests.{lt-ltb, le-ltb}
+use lib.Dec.{ltb}
+use lib.ListN.{length, getD, take, drop, set, replicate, length-append, length-take, length-map, length-replicate, length-set, getD-replicate}
+use lib.Seq.{take-suc, take-all, take-at, take-set-le, getD-set-same, length-take-le, set-at, set-getD, append-snoc, getD-append-add}
+use borrow.Author.Tests.{lt-ltb, le-ltb, ltb-true, ltb-false}
 use Rattle.ground.specs.Refusal.{ACCEPTED, OUTPUT-SHORT, INCOMPLETE}
 use Rattle.ground.specs.declared.Counted.the-variants as counts
 use Rattle.ground.specs.Bits.{Bits}
@@ -44,6 +46,52 @@ standing-bit-next bits i z h =
     let rest = replicate {A = ℕ} (SYMBOLS - suc i) 0 in
     rw (e, add-one i, take-suc bits i 0 l, map-append)
     (set-at first 0 rest (min 1 (getD bits i 0)) i k ∙ sym (append-snoc first (min 1 (getD bits i 0)) rest))
+
+module _ (bits : List ℕ) (n i : ℕ) (z : length bits ≡ SYMBOLS) (h : n ≤ i) (k : i < SYMBOLS) where
+  -- behind the bits that stand is 0
+  behind : getD (heldBits n bits) i 0 ≡ 0
+  unfolding heldBits
+  behind =
+      let l : length (map (min 1) (take n bits)) ≡ n = simp (length-map, length-take) (omega arith) in
+      let e : i ≡ length (map (min 1) (take n bits)) + (i - n) = omega (arith, l) in
+      ap (λ (j : ℕ). getD (heldBits n bits) j 0) e
+      ∙ getD-append-add (map (min 1) (take n bits)) (replicate (SYMBOLS - n) 0) (i - n) 0
+      ∙ getD-replicate (SYMBOLS - n) (i - n) 0 0 (omega arith)
+
+  zero-behind : set (heldBits n bits) i 0 ≡ heldBits n bits
+  zero-behind = ap (set (heldBits n bits) i) (sym behind) ∙ set-getD (heldBits n bits) i 0
+
+-- a number without a test: 1 where bit i stands and 0 where it doesn't
+pub stands-number : (n i b : ℕ) → n ≤ SYMBOLS → i < SYMBOLS → 0 < b → (n + 127 - i) / 128 ≡ cond (ltb i n) (min 1 b) 0
+stands-number n i b hn hi hb = by (ltb i n) refl
+  where
+    by : (t : Bool) → ltb i n ≡ t → (n + 127 - i) / 128 ≡ cond t (min 1 b) 0
+    by true e = let l = ltb-true i n e in omega arith
+    by false e = let l = ltb-false i n e in omega arith
+
+pub none-stands : (n i b : ℕ) → b ≡ 0 → 0 ≡ cond (ltb i n) (min 1 b) 0
+none-stands n i b e = by (ltb i n)
+  where
+    by : (t : Bool) → 0 ≡ cond t (min 1 b) 0
+    by true = omega arith
+    by false = refl
+
+-- and one place more of all 68: a bit where it stands, else 0
+pub place-next : (bits : List ℕ) (n i : ℕ) → length bits ≡ SYMBOLS → i < SYMBOLS
+    → set (heldBits (min i n) bits) i (cond (ltb i n) (min 1 (getD bits i 0)) 0) ≡ heldBits (min (i + 1) n) bits
+place-next bits n i z h = by (ltb i n) refl
+  where
+    by : (t : Bool) → ltb i n ≡ t → set (heldBits (min i n) bits) i (cond t (min 1 (getD bits i 0)) 0) ≡ heldBits (min (i + 1) n) bits
+    by true e =
+        let l = ltb-true i n e in
+        let a : min i n ≡ i = omega arith in
+        let b : min (i + 1) n ≡ i + 1 = omega arith in
+        rw (a, b) (standing-bit-next bits i z h)
+    by false e =
+        let l = ltb-false i n e in
+        let a : min i n ≡ n = omega arith in
+        let b : min (i + 1) n ≡ n = omega arith in
+        rw (a, b) (zero-behind bits n i z l h)
 
 same : (n : ℕ) (a b : List ℕ) → map (min 1) (take n a) ≡ map (min 1) (take n b) → heldBits n a ≡ heldBits n b
 unfolding heldBits

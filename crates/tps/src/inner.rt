@@ -191,15 +191,18 @@ pub fn first_cells(cells: &[f32]) -> [Cell; TPS_CARRIER_COUNT]
     first
 }
 
-// The first n bits as they are held, one above 1 counting as 1, and 0 behind them.
+// The first n bits as they are held, one above 1 counting as 1, and 0 behind them; n + 127 - i is 128 or more where i
+// stands.
 pub fn held_bits(bits: [u8; TPS_SYMBOLS_PER_FRAME], n: usize) -> [u8; TPS_SYMBOLS_PER_FRAME]
     requires { ⌜ n ≤ SYMBOLS ⌝ }
     ensures { λ r. ⌜ r ≡ heldBits n bits ⌝ }
 {
+    let above = n as u8 + 127;
     let mut held = [0u8; TPS_SYMBOLS_PER_FRAME];
-    let mut i = 0;
-    while i < n {
-        held[i] = if bits[i] == 0 { 0 } else { 1 };
+    let mut i: u8 = 0;
+    while (i as usize) < TPS_SYMBOLS_PER_FRAME {
+        let k = i as usize;
+        held[k] = if bits[k] == 0 { 0 } else { (above - i) / 128 };
         i += 1;
     }
     held
