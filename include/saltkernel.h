@@ -396,10 +396,10 @@ SaltCounted salt_grid_extract(const float *symbol, size_t symbol_length, float *
 /* A count of information bits and the bits that were changed, or a refusal's number, the counts 0 and no place. */
 typedef struct SaltDecoded {
     uint8_t number;
+    uint8_t mended; /* how many of the 67 bits were changed, 0 to 2 */
+    uint8_t first;  /* their places, 0 to 66 and rising, or SALT_NO_PLACE */
+    uint8_t second;
     size_t count;
-    size_t mended; /* how many of the 67 bits were changed, 0 to 2 */
-    size_t first;  /* their places, 0 to 66 and rising, or SALT_NO_PLACE */
-    size_t second;
 } SaltDecoded;
 
 /*
@@ -429,9 +429,9 @@ typedef struct SaltTpsWord {
 typedef struct SaltUnpacked {
     uint8_t number;
     SaltTpsWord word;
-    size_t mended; /* how many of s1 to s67 were changed, 0 to 2 */
-    size_t first;  /* their places, rising, from 0 for s1 to 66 for s67, or SALT_NO_PLACE */
-    size_t second;
+    uint8_t mended; /* how many of s1 to s67 were changed, 0 to 2 */
+    uint8_t first;  /* their places, rising, from 0 for s1 to 66 for s67, or SALT_NO_PLACE */
+    uint8_t second;
 } SaltUnpacked;
 
 /*
@@ -669,9 +669,9 @@ SaltCounted salt_reader_close(SaltReader reader, uint8_t *out, size_t out_length
  */
 
 /* The number of the layout. */
-uint32_t salt_layout_a03db9ee(void);
+uint32_t salt_layout_005dd21b(void);
 
-#define SALT_LAYOUT salt_layout_a03db9ee
+#define SALT_LAYOUT salt_layout_005dd21b
 
 #ifdef __cplusplus
 }

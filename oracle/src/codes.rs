@@ -40,8 +40,8 @@ fn answer(number: u8, count: usize, Mended { count: mended, first, second }: Men
 
 /// An answer with a count of mended bits and their places more.
 pub fn with_mended(answer: Answer, name: &str, Mended { count, first, second }: Mended) -> Answer {
-    let answer = answer.number(&format!("{name}bits mended"), count as u64);
-    answer.number(&format!("{name}first place"), first as u64).number(&format!("{name}second place"), second as u64)
+    let answer = answer.number(&format!("{name}bits mended"), count.into());
+    answer.number(&format!("{name}first place"), first.into()).number(&format!("{name}second place"), second.into())
 }
 
 /// Input bits and the size of a lent output.

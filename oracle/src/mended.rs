@@ -4,20 +4,20 @@
 use std::sync::OnceLock;
 
 /// Bits of a codeword.
-const CODEWORD: usize = 67;
+const CODEWORD: u8 = 67;
 /// The generator's coefficients, x^14 first.
 const GENERATOR: u16 = 0x4377;
 /// The generator's degree, which is as many bits as a remainder has.
 const DEGREE: usize = 14;
 /// What stands for no place.
-pub const NO_PLACE: usize = 255;
+pub const NO_PLACE: u8 = 255;
 
 /// How many bits are mended, 0 to 2, and their places, rising.
 #[derive(Clone, Copy, Debug, PartialEq)]
 pub struct Mended {
-    pub count: usize,
-    pub first: usize,
-    pub second: usize,
+    pub count: u8,
+    pub first: u8,
+    pub second: u8,
 }
 
 impl Mended {
@@ -26,9 +26,9 @@ impl Mended {
 
     /// The places at which two words differ, of which the first two are told.
     pub fn differing(one: &[u8], other: &[u8]) -> Self {
-        let places = || (0..CODEWORD).filter(|place| one[*place] != other[*place]);
+        let places = || (0..CODEWORD).filter(|place| one[usize::from(*place)] != other[usize::from(*place)]);
         let told = |nth| places().nth(nth).unwrap_or(NO_PLACE);
-        Self { count: places().count(), first: told(0), second: told(1) }
+        Self { count: places().count() as u8, first: told(0), second: told(1) }
     }
 }
 
@@ -51,7 +51,7 @@ fn patterns() -> impl Iterator<Item = Mended> {
 fn by_remainder() -> Vec<Option<Mended>> {
     let mut table = vec![None; 1 << DEGREE];
     for pattern in patterns() {
-        let bits: [u8; CODEWORD] = std::array::from_fn(|place| u8::from(place == pattern.first || place == pattern.second));
+        let bits: Vec<u8> = (0..CODEWORD).map(|place| u8::from(place == pattern.first || place == pattern.second)).collect();
         let before = table[usize::from(remainder(&bits))].replace(pattern);
         assert!(before.is_none(), "{before:?} and {pattern:?} have the same remainder");
     }
@@ -61,6 +61,6 @@ fn by_remainder() -> Vec<Option<Mended>> {
 /// The bits by which 67 bits differ from the codeword within distance two; None where there is no such codeword.
 pub fn mended(word: &[u8]) -> Option<Mended> {
     static TABLE: OnceLock<Vec<Option<Mended>>> = OnceLock::new();
-    assert_eq!(word.len(), CODEWORD);
+    assert_eq!(word.len(), usize::from(CODEWORD));
     TABLE.get_or_init(by_remainder)[usize::from(remainder(word))]
 }

@@ -162,8 +162,8 @@ impl PutLine {
     }
 
     /// Bits mended, so many, at places that are any numbers: they aren't written.
-    fn some_mended(random: &mut Random, count: usize) -> Mended {
-        let [first, second] = [(); 2].map(|()| Self::some_number(random) as usize);
+    fn some_mended(random: &mut Random, count: u8) -> Mended {
+        let [first, second] = [(); 2].map(|()| random.next() as u8);
         Mended { count, first, second }
     }
 }
@@ -171,25 +171,24 @@ impl PutLine {
 impl Subject for PutLine {
     type Case = Putting;
 
-    /// Numbers about every power of ten and of two, all refusals, every byte in each field of a word, counts of mended bits to 300 and about every power of
-    /// two, and random lines of received words, in all rooms.
+    /// Numbers about every power of ten and of two, all refusals, every byte in each field of a word, every count of mended bits, and random lines of
+    /// received words, in all rooms.
     fn each_case(&self, random: &mut Random, compare: &mut dyn FnMut(Putting)) {
         let powers = (0..20).map(|power| 10u64.pow(power)).chain((0..64).map(|power| 1 << power)).chain([u64::MAX]);
         for line in powers.flat_map(|power| [power.wrapping_sub(1), power, power.wrapping_add(1)]) {
-            let mended = Self::some_mended(random, (line % 3) as usize);
+            let mended = Self::some_mended(random, (line % 3) as u8);
             rooms(random).into_iter().for_each(|room| compare(Putting { line, number: 0, fields: [0; 5], mended, room }));
         }
         for (field, code) in (0..5).flat_map(|field| (0..=u8::MAX).map(move |code| (field, code))) {
             let mut fields = [0; 5];
             fields[field] = code;
             for number in [0, 1 + random.below(255) as u8, code] {
-                let (line, count) = (Self::some_number(random), random.below(3));
+                let (line, count) = (Self::some_number(random), random.below(3) as u8);
                 let mended = Self::some_mended(random, count);
                 rooms(random).into_iter().for_each(|room| compare(Putting { line, number, fields, mended, room }));
             }
         }
-        let powers = (0..usize::BITS).flat_map(|power| [0, 1, 2].map(|above| (1usize << power) + above));
-        for count in (0..=300).chain(powers).chain([usize::MAX - 1, usize::MAX]) {
+        for count in 0..=u8::MAX {
             for number in [0, 1 + random.below(255) as u8] {
                 let (line, mended) = (Self::some_number(random), Self::some_mended(random, count));
                 rooms(random).into_iter().for_each(|room| compare(Putting { line, number, fields: [0; 5], mended, room }));
@@ -229,7 +228,7 @@ impl Subject for PutLine {
         let lines = shrink::numbers(case.line as usize).map(|line| Putting { line: line as u64, ..*case });
         let numbers = shrink::numbers(usize::from(case.number)).map(|number| Putting { number: number as u8, ..*case });
         let fields = shrink::plainer(&case.fields).map(|fields| Putting { fields: fields.try_into().expect("five"), ..*case });
-        let mended = shrink::numbers(case.mended.count).map(|count| Putting { mended: Mended { count, ..Mended::NONE }, ..*case });
+        let mended = shrink::numbers(case.mended.count.into()).map(|count| Putting { mended: Mended { count: count as u8, ..Mended::NONE }, ..*case });
         Box::new(rooms.chain(lines).chain(numbers).chain(mended).chain(fields.collect::<Vec<_>>()))
     }
 

@@ -59,12 +59,11 @@ pub fn put_heading(out: &mut [u8]) -> Result<usize, Refusal> {
 /// [`Refusal::OutputShort`].
 pub fn put_line(number: u64, answer: Result<(TpsWord, Mended), Refusal>, out: &mut [u8]) -> Result<usize, Refusal> {
     const NO_WORD: SaltTpsWord = SaltTpsWord { frame_number: 0, constellation: 0, code_rate_hp: 0, guard: 0, cell_id: 0 };
-    let (refusal, word, mended) = match answer {
-        Ok((word, mended)) => (0, codes_of(word), mended),
-        Err(refusal) => (refusal.number(), NO_WORD, Mended::default()),
+    let (refusal, word, [mended, first, second]) = match answer {
+        Ok((word, mended)) => (0, codes_of(word), mended.numbers()),
+        Err(refusal) => (refusal.number(), NO_WORD, Mended::default().numbers()),
     };
-    let [first, second] = mended.both;
-    count_of(call::put_line(number, SaltUnpacked { number: refusal, word, mended: mended.count, first, second }, out))
+    count_of(call::put_line(number, SaltUnpacked { number: refusal, word, mended, first, second }, out))
 }
 
 /// The reader of an input that comes in parts. In whatever parts it comes, the report is the same.

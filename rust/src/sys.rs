@@ -39,7 +39,7 @@ mod sizes {
     pub const SALT_SIGNED_LAST: usize = 852;
     pub const SALT_TPS_INFORMATION_BITS: usize = 53;
     pub const SALT_TPS_CODEWORD_BITS: usize = 67;
-    pub const SALT_NO_PLACE: usize = 255;
+    pub const SALT_NO_PLACE: u8 = 255;
     pub const SALT_TPS_WORD_BITS: usize = 68;
     pub const SALT_JOURNAL_FLOATS: usize = 2312;
     pub const SALT_LINE_DIGITS: usize = 17;
@@ -247,10 +247,10 @@ extern "C" {
 #[derive(Clone, Copy, Debug, PartialEq, Eq)]
 pub struct SaltDecoded {
     pub number: u8,
+    pub mended: u8,
+    pub first: u8,
+    pub second: u8,
     pub count: usize,
-    pub mended: usize,
-    pub first: usize,
-    pub second: usize,
 }
 
 extern "C" {
@@ -275,9 +275,9 @@ pub struct SaltTpsWord {
 pub struct SaltUnpacked {
     pub number: u8,
     pub word: SaltTpsWord,
-    pub mended: usize,
-    pub first: usize,
-    pub second: usize,
+    pub mended: u8,
+    pub first: u8,
+    pub second: u8,
 }
 
 extern "C" {
@@ -409,11 +409,11 @@ extern "C" {
 // ---- The layout
 
 extern "C" {
-    pub fn salt_layout_a03db9ee() -> u32;
+    pub fn salt_layout_005dd21b() -> u32;
 }
 
 /// Refers to the layout, so that nothing links with an archive of another one; it is called as a program starts, since
 /// a linker drops nothing of what is.
 #[used]
 #[link_section = ".init_array"]
-static LAYOUT: unsafe extern "C" fn() -> u32 = salt_layout_a03db9ee;
+static LAYOUT: unsafe extern "C" fn() -> u32 = salt_layout_005dd21b;

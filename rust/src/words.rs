@@ -15,18 +15,28 @@ pub const TPS_PARITY_BITS: usize = TPS_CODEWORD_BITS - TPS_INFO_BITS;
 /// The bits of a codeword that were mended: none, one or two.
 #[derive(Clone, Copy, Debug, PartialEq, Eq, Hash)]
 pub struct Mended {
-    pub(crate) count: usize,
-    pub(crate) both: [usize; 2],
+    count: usize,
+    both: [usize; 2],
 }
 
 impl Default for Mended {
     /// None.
     fn default() -> Self {
-        Mended { count: 0, both: [SALT_NO_PLACE; 2] }
+        Mended::of(0, SALT_NO_PLACE, SALT_NO_PLACE)
     }
 }
 
 impl Mended {
+    /// By the numbers of an answer.
+    pub(crate) fn of(count: u8, first: u8, second: u8) -> Self {
+        Mended { count: count.into(), both: [first.into(), second.into()] }
+    }
+
+    /// The numbers of an answer again.
+    pub(crate) fn numbers(self) -> [u8; 3] {
+        [self.count, self.both[0], self.both[1]].map(|number| number as u8)
+    }
+
     /// Their places, rising, from 0 to 66; of a word, place 0 is s1 and place 66 is s67.
     pub fn places(&self) -> &[usize] {
         &self.both[..self.count]
@@ -78,7 +88,7 @@ pub fn tps_bch_decode(codeword: &[u8]) -> Result<[u8; TPS_INFO_BITS], Refusal> {
 pub fn tps_bch_decode_mended(codeword: &[u8]) -> Result<([u8; TPS_INFO_BITS], Mended), Refusal> {
     let mut out = [0; TPS_INFO_BITS];
     let answer = call::tps_bch_decode(codeword, &mut out);
-    accepted(answer.number, (out, Mended { count: answer.mended, both: [answer.first, answer.second] }))
+    accepted(answer.number, (out, Mended::of(answer.mended, answer.first, answer.second)))
 }
 
 /// [`tps_bch_decode`] into a lent output; gives 53. Refusals: [`Refusal::Length`], [`Refusal::NotABit`], [`Refusal::OutputShort`], then
@@ -228,6 +238,6 @@ pub(crate) fn word_of(answer: SaltUnpacked) -> Result<TpsWord, Refusal> {
 
 /// The word of an answer and the bits that were mended, or its refusal.
 pub(crate) fn mended_word_of(answer: SaltUnpacked) -> Result<(TpsWord, Mended), Refusal> {
-    let mended = Mended { count: answer.mended, both: [answer.first, answer.second] };
+    let mended = Mended::of(answer.mended, answer.first, answer.second);
     word_of(answer).map(|word| (word, mended))
 }

@@ -40,7 +40,7 @@ static void lines_read(void) {
 
 /* Lines that are written: a word, a refusal, and codes that stand for nothing. */
 static void lines_written(void) {
-    const SaltUnpacked said = {0, word, 1, 9, SALT_NO_PLACE}, many = {0, word, SIZE_MAX, 0, 0}, refused = {SALT_NO_WORD, {0, 3, 5, 4, 0}, 2, 3, 4};
+    const SaltUnpacked said = {0, word, 1, 9, SALT_NO_PLACE}, many = {0, word, UINT8_MAX, 0, 0}, refused = {SALT_NO_WORD, {0, 3, 5, 4, 0}, 2, 3, 4};
     const SaltUnpacked reserved[3] = {{0, {0, 3, 0, 0, 0}, 0, 0, 0}, {0, {0, 0, 5, 0, 0}, 0, 0, 0}, {0, {0, 0, 0, 4, 0}, 0, 0, 0}};
     Lent out = lend(SALT_LINE_ROOM, 1);
     for (size_t i = 0; i < 3; i++) {

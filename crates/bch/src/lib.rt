@@ -15,13 +15,13 @@ mod remainder;
 mod search;
 
 // A place that stands for none.
-pub const NO_PLACE: usize = 255;
+pub const NO_PLACE: u8 = 255;
 
 // The bits of a codeword that were changed: how many, 0 to 2, and their places, 0 to 66 and rising, or NO_PLACE.
 pub struct Mended {
-    pub count: usize,
-    pub first: usize,
-    pub second: usize,
+    pub count: u8,
+    pub first: u8,
+    pub second: u8,
 }
 
 // The bits that were changed where the information was written, or the refusal's number.
@@ -96,10 +96,10 @@ fn put_information(code: &[u8], found: Found, out: &mut [u8])
     copy_information(code, out);
     match found {
         Found::Clean => {}
-        Found::One(i) => flip_at(out, i),
+        Found::One(i) => flip_at(out, i as usize),
         Found::Two(i, j) => {
-            flip_at(out, i);
-            flip_at(out, j);
+            flip_at(out, i as usize);
+            flip_at(out, j as usize);
         }
         Found::NoWord => {}
     }

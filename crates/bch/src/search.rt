@@ -16,8 +16,8 @@ use super::remainder::remainder;
 // At most two changed places of 67, rising, or that no codeword is within distance two.
 pub(crate) enum Found {
     Clean,
-    One(usize),
-    Two(usize, usize),
+    One(u8),
+    Two(u8, u8),
     NoWord,
 }
 
@@ -25,7 +25,7 @@ pub(crate) enum Found {
 struct Search {
     p: u8,
     q: u8,
-    degree: usize,
+    degree: u8,
 }
 
 // The search moved on past degrees that are no roots, two at a time.

@@ -123,7 +123,7 @@ fn hexadecimal_digit(digit: u8) -> u8
 }
 
 // The digit of a count of mended bits.
-fn mended_digit(count: usize) -> u8
+fn mended_digit(count: u8) -> u8
     ensures { λ r. ⌜ r ∷ [] ≡ mendedText count ⌝ }
 {
     match count {
@@ -134,7 +134,7 @@ fn mended_digit(count: usize) -> u8
 }
 
 // Writes the columns of a cell id and of a count of mended bits, a space before each, and a newline.
-fn put_cell_and_mended(out: &mut [u8], at: usize, cell_id: u8, count: usize) -> usize
+fn put_cell_and_mended(out: &mut [u8], at: usize, cell_id: u8, count: u8) -> usize
     requires { ⌜ at + 6 ≤ length (now out) ⌝ }
     ensures text { λ r. ⌜ Put (now (out .entry)) at (lastColumns «cell_id» count) (now (out .exit)) r ⌝ }
     ensures room { λ r. ⌜ r ≤ at + 6 ⌝ }

@@ -13,10 +13,10 @@ use bch::Decoded;
 #[repr(C)]
 pub struct SaltDecoded {
     pub number: u8,
+    pub mended: u8, // how many of the 67 bits were changed, 0 to 2
+    pub first: u8, // their places, 0 to 66 and rising, or SALT_NO_PLACE
+    pub second: u8,
     pub count: usize,
-    pub mended: usize, // how many of the 67 bits were changed, 0 to 2
-    pub first: usize, // their places, 0 to 66 and rising, or SALT_NO_PLACE
-    pub second: usize,
 }
 
 // An answer of the decoder as numbers.
@@ -26,17 +26,17 @@ fn decoded_numbers_of(answer: Decoded) -> SaltDecoded
     match answer {
         Decoded::Information(mended) => SaltDecoded {
             number: 0,
-            count: TPS_INFORMATION_BITS,
             mended: mended.count,
             first: mended.first,
             second: mended.second,
+            count: TPS_INFORMATION_BITS,
         },
         Decoded::Refused(number) => SaltDecoded {
             number,
-            count: 0,
             mended: 0,
             first: NO_PLACE,
             second: NO_PLACE,
+            count: 0,
         },
     }
 }

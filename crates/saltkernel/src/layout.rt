@@ -6,8 +6,8 @@ ghost use mathlib.Core.Path.{_≡_};
 
 // The number of the layout.
 #[no_mangle]
-pub extern "C" fn salt_layout_a03db9ee() -> u32
-    ensures { λ r. ⌜ r ≡ 2688399854 ⌝ }
+pub extern "C" fn salt_layout_005dd21b() -> u32
+    ensures { λ r. ⌜ r ≡ 6148635 ⌝ }
 {
-    2688399854
+    6148635
 }

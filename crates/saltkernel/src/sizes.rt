@@ -47,7 +47,7 @@ pub const TPS_INFORMATION_BITS: usize = 53;
 // The bits of a TPS codeword.
 pub const TPS_CODEWORD_BITS: usize = 67;
 // A place of a codeword that stands for none.
-pub const NO_PLACE: usize = 255;
+pub const NO_PLACE: u8 = 255;
 // A zero bit s0 and the codeword; the symbols of a frame are as many.
 pub const TPS_WORD_BITS: usize = 68;
 // A session's journal: the TPS cells of 68 symbols.

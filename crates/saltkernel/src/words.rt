@@ -27,9 +27,9 @@ pub struct SaltTpsWord {
 pub struct SaltUnpacked {
     pub number: u8,
     pub word: SaltTpsWord,
-    pub mended: usize, // how many of s1 to s67 were changed, 0 to 2
-    pub first: usize, // their places, rising, from 0 for s1 to 66 for s67, or SALT_NO_PLACE
-    pub second: usize,
+    pub mended: u8, // how many of s1 to s67 were changed, 0 to 2
+    pub first: u8, // their places, rising, from 0 for s1 to 66 for s67, or SALT_NO_PLACE
+    pub second: u8,
 }
 
 // The word that codes say; they are reserved where one of them stands for nothing.

@@ -15,6 +15,9 @@ enum-told c = search needs
 enum-known-found : tie.Need-enum-known-found
 enum-known-found c = search needs
 
+cast-flip-at : tie.Need-cast-flip-at
+cast-flip-at c = search needs
+
 flip-at-requires : tie.Need-flip-at-requires
 flip-at-requires c κs =
     let z = c .before .before .before .before .before .before .before .before .before .before in
@@ -24,11 +27,17 @@ flip-at-requires c κs =
 enum-known-found-2 : tie.Need-enum-known-found-2
 enum-known-found-2 c = search needs
 
+cast-flip-at-2 : tie.Need-cast-flip-at-2
+cast-flip-at-2 c = search needs
+
 flip-at-requires-2 : tie.Need-flip-at-requires-2
 flip-at-requires-2 c κs =
     let z = c .before .before .before .before .before .before .before .before .before .before in
     let y = c .before .before .before .before .before .before .copy-information in
     copied-bits (z .args .code .now) (y .last .1 .0) (z .pre .1) (y .ensures) (z .pre .0)
+
+cast-flip-at-3 : tie.Need-cast-flip-at-3
+cast-flip-at-3 c = search needs
 
 flip-at-requires-3 : tie.Need-flip-at-requires-3
 flip-at-requires-3 c κs =
@@ -91,9 +100,12 @@ put-information-spec =
     copy-information-requires
     enum-told
     enum-known-found
+    cast-flip-at
     flip-at-requires
     enum-known-found-2
+    cast-flip-at-2
     flip-at-requires-2
+    cast-flip-at-3
     flip-at-requires-3
     enum-told-2
     same-length
