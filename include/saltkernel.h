@@ -414,6 +414,12 @@ SaltCounted salt_tps_bch_encode(const uint8_t *info, size_t info_length, uint8_t
  */
 SaltDecoded salt_tps_bch_decode(const uint8_t *code, size_t code_length, uint8_t *out, size_t out_length);
 
+/*
+ * The same by the slow decoder, which tries the bits as they are, each single change and each pair.
+ * Refusals: 1 LENGTH (not 67), 2 NOT A BIT, 3 OUTPUT SHORT, 4 NO WORD.
+ */
+SaltDecoded salt_tps_bch_decode_slow(const uint8_t *code, size_t code_length, uint8_t *out, size_t out_length);
+
 /* ---- The TPS word (4.6.2) */
 
 /* The parameters that a frame signals; constellation, rate and guard interval by their codes. */
@@ -654,11 +660,24 @@ SaltReaderFed salt_reader_feed(SaltReader reader, const uint8_t *part, size_t pa
                                size_t out_length);
 
 /*
+ * The same by the slow decoder, with the same text.
+ * Refusals: 3 OUTPUT SHORT (room for fewer than 60 a byte of the part).
+ */
+SaltReaderFed salt_reader_feed_slow(SaltReader reader, const uint8_t *part, size_t part_length, uint8_t *out,
+                                    size_t out_length);
+
+/*
  * Ends the input: writes the report's line for a line that is open there, and the closing line. Answers the bytes
  * written.
  * Refusals: 3 OUTPUT SHORT (room for fewer than 120).
  */
 SaltCounted salt_reader_close(SaltReader reader, uint8_t *out, size_t out_length);
+
+/*
+ * The same by the slow decoder, with the same text.
+ * Refusals: 3 OUTPUT SHORT (room for fewer than 120).
+ */
+SaltCounted salt_reader_close_slow(SaltReader reader, uint8_t *out, size_t out_length);
 
 /* ---- The layout */
 
@@ -669,9 +688,9 @@ SaltCounted salt_reader_close(SaltReader reader, uint8_t *out, size_t out_length
  */
 
 /* The number of the layout. */
-uint32_t salt_layout_005dd21b(void);
+uint32_t salt_layout_0dafa308(void);
 
-#define SALT_LAYOUT salt_layout_005dd21b
+#define SALT_LAYOUT salt_layout_0dafa308
 
 #ifdef __cplusplus
 }

@@ -43,16 +43,18 @@ fn main() {
     let (mut bytes, mut calls, mut symbols) = (byte_rows(), call_rows(), bench_pilots::rows());
     calls.extend(bench_codes::rows().into_iter().chain(bench_tps::rows()));
     symbols.push(bench_session::feed());
-    let mut steps = vec![bench_session::step_back()];
+    let (mut slow, mut steps) = (bench_codes::slow_rows(), vec![bench_session::step_back()]);
     let mut reports = vec![bench_report::row()];
     for _ in 0..ROUNDS {
-        bytes.iter_mut().chain(&mut calls).chain(&mut symbols).chain(&mut steps).for_each(Row::measure);
+        bytes.iter_mut().chain(&mut calls).chain(&mut slow).chain(&mut symbols).chain(&mut steps).for_each(Row::measure);
     }
     (0..RUNS).for_each(|_| reports.iter_mut().for_each(Row::measure));
     println!("{:<34} {:>8} {:>15} {:>10} {:>10} {:>8} {:>7}", "function", "bytes", "orion-sdr MB/s", "ours MB/s", "copy MB/s", "ratio", "asked");
     bytes.iter().for_each(Row::print);
     println!("{:<34} {:>8} {:>15} {:>10} {:>10} {:>8} {:>7}", "function", "bits", "orion-sdr Mc/s", "ours Mc/s", "", "ratio", "asked");
     calls.iter().for_each(Row::print);
+    println!("{:<34} {:>8} {:>15} {:>10} {:>10} {:>8} {:>7}", "function", "bits", "orion-sdr kc/s", "ours kc/s", "", "ratio", "asked");
+    slow.iter().for_each(Row::print);
     println!("{:<34} {:>8} {:>15} {:>10} {:>10} {:>8} {:>7}", "function", "cells", "orion-sdr ks/s", "ours ks/s", "copy ks/s", "ratio", "asked");
     symbols.iter().for_each(Row::print);
     println!("{:<34} {:>8} {:>15} {:>10} {:>10} {:>8} {:>7}", "function", "standing", "fed again kc/s", "ours kc/s", "", "ratio", "asked");
@@ -68,7 +70,7 @@ fn main() {
     println!("ks/s: thousand symbols a second, phase after phase; both sides' objects are made once and write into a lent buffer.");
     println!("Session::feed is beside orion-sdr's extract_symbol and feed_symbol together; Session::step_back beside our own feeds of all that stand");
     println!("(kc/s: thousand calls a second, all the feeds being one).");
-    let rows: Vec<Row> = bytes.into_iter().chain(calls).chain(symbols).chain(steps).chain(reports).collect();
+    let rows: Vec<Row> = bytes.into_iter().chain(calls).chain(slow).chain(symbols).chain(steps).chain(reports).collect();
     let below = rows.iter().filter(|row| row.below()).count();
     let asked = rows.iter().filter(|row| row.asked.is_some()).count();
     println!("{} of {asked} asked ratios met", asked - below);

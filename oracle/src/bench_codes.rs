@@ -20,6 +20,19 @@ pub fn rows() -> Vec<Row> {
     ]
 }
 
+/// The rows of the slow decoder, which count thousandths of a call.
+pub fn slow_rows() -> Vec<Row> {
+    vec![
+        decode_slow("tps_bch_decode_slow, none wrong", 0),
+        decode_slow("tps_bch_decode_slow, 1 wrong", 1),
+        decode_slow("tps_bch_decode_slow, 2 wrong", 2),
+        decode_slow("tps_bch_decode_slow, 3 wrong", 3),
+    ]
+}
+
+/// Calls of one action of the slow decoder.
+const SLOW_WORDS: usize = 128;
+
 /// A row over `WORDS` calls that each take so many bits.
 fn row(name: &'static str, bits: usize, asked: f64, orion: impl FnMut() + 'static, ours: impl FnMut() + 'static) -> Row {
     Row { name, size: bits, amount: WORDS, asked: Some(asked), orion: Side::new(orion), ours: Side::new(ours), copy: None }
@@ -75,4 +88,20 @@ fn decode(name: &'static str, wrong: usize) -> Row {
             black_box(call::tps_bch_decode(black_box(word), black_box(&mut out)));
         }
     })
+}
+
+/// Decoding fewer words with so many wrong bits by the slow decoder; no ratio is asked.
+fn decode_slow(name: &'static str, wrong: usize) -> Row {
+    let (theirs, ours, mut out) = (received(wrong), received(wrong), [0; TPS_INFO_BITS]);
+    let orion = move || {
+        for word in &theirs[..SLOW_WORDS] {
+            black_box(orion::tps_bch_decode(black_box(word)));
+        }
+    };
+    let ours = move || {
+        for word in &ours[..SLOW_WORDS] {
+            black_box(call::tps_bch_decode_slow(black_box(word), black_box(&mut out)));
+        }
+    };
+    Row { name, size: TPS_CODEWORD_BITS, amount: 1000 * SLOW_WORDS, asked: None, orion: Side::new(orion), ours: Side::new(ours), copy: None }
 }

@@ -1,4 +1,4 @@
-//! The code of the TPS words: tps_bch_encode and tps_bch_decode of orion-sdr's dvb_t_tps.rs. Which bits are mended orion-sdr doesn't tell; mended.rs does.
+//! The code of the TPS words: tps_bch_encode and tps_bch_decode of orion-sdr's dvb_t_tps.rs, the latter beside both decoders of the port. Which bits are mended orion-sdr doesn't tell; mended.rs does.
 
 use crate::answer::{Answer, shown};
 use crate::harness::{Expected, Run, Subject};
@@ -14,17 +14,14 @@ use orion_sdr::waveform::dvb_t_tps as orion;
 const INFORMATION: usize = 53;
 /// Bits of a codeword.
 const CODEWORD: usize = 67;
-/// So many random informations are encoded, and so many words far from their codeword decoded.
+/// So many random informations are encoded.
 const WORDS: usize = 1_000_000;
-/// Each remainder is tried with so many informations.
-const INFORMATIONS: usize = 4;
-/// So many codewords have all the words near them decoded.
-const CODEWORDS: usize = 1000;
 
 /// Compares all functions of this module.
 pub fn compare(run: &mut Run) {
     run.compare("tps_bch_encode", Encode);
-    run.compare("tps_bch_decode", Decode);
+    run.compare("tps_bch_decode", Decode::FAST);
+    run.compare("tps_bch_decode_slow", Decode::SLOW);
 }
 
 /// A function of the port that reads bits and writes bits; encoding mends none.
@@ -279,9 +276,22 @@ pub fn with_fewer_ones(word: &[u8]) -> Vec<Vec<u8>> {
     added.filter(|less: &Vec<u8>| ones(less) < ones(word)).collect()
 }
 
-struct Decode;
+/// A decoder of the port, and how many words it is tried with.
+struct Decode {
+    ours: Call,
+    /// Each remainder is tried with so many informations.
+    informations: usize,
+    /// So many codewords have all the words near them decoded.
+    codewords: usize,
+    /// So many words have random wrong bits, from so many to so many.
+    words: usize,
+    wrong: [usize; 2],
+}
 
 impl Decode {
+    const FAST: Self = Self { ours: call::tps_bch_decode, informations: 4, codewords: 1000, words: WORDS, wrong: [3, 6] };
+    const SLOW: Self = Self { ours: call::tps_bch_decode_slow, informations: 1, codewords: 1, words: 20_000, wrong: [0, 4] };
+
     /// orion-sdr's decoding, and the bits that the search finds, which are those where the word and orion-sdr's codeword of that information differ.
     fn theirs(word: &[u8]) -> Option<Written<INFORMATION>> {
         let (info, mended) = (orion::tps_bch_decode(word), mended(word));
@@ -290,18 +300,18 @@ impl Decode {
         info.zip(mended)
     }
 
-    /// Hands over words with every remainder, all words near some codewords, and words with three to six wrong bits.
-    fn each_word(random: &mut Random, mut see: impl FnMut([u8; CODEWORD])) {
-        for remainder in (0..INFORMATIONS).flat_map(|_| 0..1 << (CODEWORD - INFORMATION)) {
+    /// Hands over words with every remainder, all words near some codewords, and words with random wrong bits.
+    fn each_word(&self, random: &mut Random, mut see: impl FnMut([u8; CODEWORD])) {
+        for remainder in (0..self.informations).flat_map(|_| 0..1 << (CODEWORD - INFORMATION)) {
             see(turned(codeword(random), remainder << INFORMATION));
         }
         let extremes = [[0; INFORMATION], [1; INFORMATION]].map(|info| orion::tps_bch_encode(&info));
-        let codewords: Vec<_> = (0..random.part_of(CODEWORDS)).map(|_| codeword(random)).collect();
+        let codewords: Vec<_> = (0..random.part_of(self.codewords)).map(|_| codeword(random)).collect();
         for word in extremes.into_iter().chain(codewords) {
             up_to_two(CODEWORD).for_each(|places| see(turned(word, places)));
         }
-        for _ in 0..random.part_of(WORDS) {
-            let wrong = random.between(3, 6);
+        for _ in 0..random.part_of(self.words) {
+            let wrong = random.between(self.wrong[0], self.wrong[1]);
             see(turned(codeword(random), some_places(random, wrong)));
         }
     }
@@ -324,9 +334,9 @@ impl Subject for Decode {
 
     fn in_bulk(&self, random: &mut Random, differs: &mut dyn FnMut(Coding)) -> usize {
         let mut compared = 0;
-        Self::each_word(random, |word| {
+        self.each_word(random, |word| {
             compared += 1;
-            if !same(&word, Self::theirs(&word), call::tps_bch_decode) {
+            if !same(&word, Self::theirs(&word), self.ours) {
                 differs(Coding { bits: word.to_vec(), room: Room::Exact });
             }
         });
@@ -334,7 +344,7 @@ impl Subject for Decode {
     }
 
     fn ours(&self, case: &Coding) -> Answer {
-        case.ours(INFORMATION, call::tps_bch_decode)
+        case.ours(INFORMATION, self.ours)
     }
 
     /// orion-sdr's None is LENGTH where the length isn't 67, whatever the items are; it passes items above 1 on and isn't called for them.

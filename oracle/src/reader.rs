@@ -7,16 +7,15 @@ use crate::lines::{DIGITS, read_line};
 use crate::random::Random;
 use crate::refusals::{BAD_LINE, OUTPUT_SHORT};
 use crate::reports::{LINE_ROOM, line_text, owed_text, rooms, some_digits, texted};
-use crate::sys::SaltReader;
+use crate::sys::{SaltCounted, SaltReader, SaltReaderFed};
 use crate::{call, shrink};
-
-/// So many inputs are read.
-const INPUTS: usize = 3000;
 
 /// Compares the three functions of the reader, each over inputs in parts; after each part all that can be asked is asked.
 pub fn compare(run: &mut Run) {
-    run.compare("Reader::feed", Reader { most: 12 });
-    run.compare("Reader::close", Reader { most: 1 });
+    let fast = |most| Reader { most, inputs: 3000, feed: call::reader_feed, close: call::reader_close };
+    run.compare("Reader::feed", fast(12));
+    run.compare("Reader::close", fast(1));
+    run.compare("Reader, by the slow decoder", Reader { most: 12, inputs: 500, feed: call::reader_feed_slow, close: call::reader_close_slow });
 }
 
 /// A part of an input, and the rooms that are lent for feeding it and for closing behind it.
@@ -31,9 +30,21 @@ struct Input {
     parts: Vec<Part>,
 }
 
-/// Inputs of so many lines at most.
+/// Inputs of so many lines at most, so many of them, and the functions that read them.
 struct Reader {
     most: usize,
+    inputs: usize,
+    feed: fn(SaltReader, &[u8], &mut [u8]) -> SaltReaderFed,
+    close: fn(SaltReader, &mut [u8]) -> SaltCounted,
+}
+
+impl Reader {
+    /// What closing the port's reader gives, with what it holds.
+    fn closed(&self, reader: SaltReader, room: Room) -> Answer {
+        let mut out = Lent::to_write("output", &background(room.size(2 * LINE_ROOM)));
+        let answer = (self.close)(reader, out.slice_mut());
+        holding(texted(out, answer), &reader.held[..reader.count.min(DIGITS)], reader.count, reader.lines, reader.refused)
+    }
 }
 
 /// A line of any kind: a received word most often; else one that is no line of digits, or none.
@@ -123,29 +134,22 @@ fn holding(answer: Answer, held: &[u8], count: usize, lines: u64, refused: u64) 
     answer.bytes("characters held", held).number("their count", count as u64).number("lines", lines).number("refused lines", refused)
 }
 
-/// What closing the port's reader gives, with what it holds.
-fn closed(reader: SaltReader, room: Room) -> Answer {
-    let mut out = Lent::to_write("output", &background(room.size(2 * LINE_ROOM)));
-    let answer = call::reader_close(reader, out.slice_mut());
-    holding(texted(out, answer), &reader.held[..reader.count.min(DIGITS)], reader.count, reader.lines, reader.refused)
-}
-
 impl Subject for Reader {
     type Case = Input;
 
     fn each_case(&self, random: &mut Random, compare: &mut dyn FnMut(Input)) {
         compare(Input { lines: 0, refused: 0, close: Room::Exact, parts: vec![] });
-        (0..INPUTS).for_each(|_| compare(some_input(random, self.most)));
+        (0..self.inputs).for_each(|_| compare(some_input(random, self.most)));
     }
 
     fn ours(&self, case: &Input) -> Answer {
         let mut reader = call::reader_new();
         (reader.lines, reader.refused) = (reader.lines.wrapping_add(case.lines), reader.refused.wrapping_add(case.refused));
-        case.parts.iter().fold(closed(reader, case.close), |answer, (part, room, close)| {
+        case.parts.iter().fold(self.closed(reader, case.close), |answer, (part, room, close)| {
             let (mut lent, mut out) = (Lent::to_read("part", part), Lent::to_write("output", &background(room.size(LINE_ROOM * part.len()))));
-            let fed = call::reader_feed(reader, lent.slice(), out.slice_mut());
+            let fed = (self.feed)(reader, lent.slice(), out.slice_mut());
             reader = fed.reader;
-            answer.and(texted(out, fed.answer)).surroundings(&surroundings(&mut [&mut lent])).and(closed(reader, *close))
+            answer.and(texted(out, fed.answer)).surroundings(&surroundings(&mut [&mut lent])).and(self.closed(reader, *close))
         })
     }
 

@@ -186,6 +186,10 @@ pub fn tps_bch_decode(code: &[u8], out: &mut [u8]) -> SaltDecoded {
     unsafe { salt_tps_bch_decode(code.as_ptr(), code.len(), out.as_mut_ptr(), out.len()) }
 }
 
+pub fn tps_bch_decode_slow(code: &[u8], out: &mut [u8]) -> SaltDecoded {
+    unsafe { salt_tps_bch_decode_slow(code.as_ptr(), code.len(), out.as_mut_ptr(), out.len()) }
+}
+
 // ---- The TPS word (4.6.2)
 
 pub fn tps_word_pack(word: SaltTpsWord, out: &mut [u8]) -> SaltCounted {
@@ -286,6 +290,14 @@ pub fn reader_feed(reader: SaltReader, part: &[u8], out: &mut [u8]) -> SaltReade
     unsafe { salt_reader_feed(reader, part.as_ptr(), part.len(), out.as_mut_ptr(), out.len()) }
 }
 
+pub fn reader_feed_slow(reader: SaltReader, part: &[u8], out: &mut [u8]) -> SaltReaderFed {
+    unsafe { salt_reader_feed_slow(reader, part.as_ptr(), part.len(), out.as_mut_ptr(), out.len()) }
+}
+
 pub fn reader_close(reader: SaltReader, out: &mut [u8]) -> SaltCounted {
     unsafe { salt_reader_close(reader, out.as_mut_ptr(), out.len()) }
+}
+
+pub fn reader_close_slow(reader: SaltReader, out: &mut [u8]) -> SaltCounted {
+    unsafe { salt_reader_close_slow(reader, out.as_mut_ptr(), out.len()) }
 }

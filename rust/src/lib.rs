@@ -36,6 +36,7 @@
 //! | [`GridMap`] and [`GridExtract`] are those of the 2K plan with continual pilots alone; `process` is their own | any `CarrierGrid`; `process` is a trait's |
 //! | a 69th symbol is refused | collected |
 //! | [`tps_bch_decode_mended`], [`unpack_mended`] and [`word_mended`] tell which bits were mended, too | not told |
+//! | [`tps_bch_decode_slow`] and [`Reader::by`] read by trying each change, with the same answers | one decoder |
 //! | left out | `TS_SYNC_BYTE_INVERTED`, `is_dvb_t_constellation`, plans, guard lengths in samples, bandwidths, configurations |
 //!
 //! The guard interval that a mapper or extractor is made for plays no part in the grid, there and here.
@@ -54,6 +55,8 @@
 //! [`next_symbol`]: waveform::dvb_t_tps::TpsEncoder::next_symbol
 //! [`feed_symbol`]: waveform::dvb_t_tps::TpsDecoder::feed_symbol
 //! [`tps_bch_decode_mended`]: waveform::dvb_t_tps::tps_bch_decode_mended
+//! [`tps_bch_decode_slow`]: waveform::dvb_t_tps::tps_bch_decode_slow
+//! [`Reader::by`]: report::Reader::by
 //! [`unpack_mended`]: waveform::dvb_t_tps::TpsWord::unpack_mended
 //! [`word_mended`]: waveform::dvb_t_tps::TpsDecoder::word_mended
 //! [`GridMap`]: multicarrier::GridMap
@@ -110,6 +113,7 @@ pub mod waveform {
     pub mod dvb_t_tps {
         pub use crate::frames::*;
         pub use crate::words::{tps_bch_decode, tps_bch_decode_into, tps_bch_decode_mended, tps_bch_encode, tps_bch_encode_into};
+        pub use crate::words::{tps_bch_decode_slow, tps_bch_decode_slow_mended};
         pub use crate::words::{Mended, TpsWord, TPS_CODEWORD_BITS, TPS_INFO_BITS, TPS_PARITY_BITS};
     }
 }

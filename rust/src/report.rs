@@ -83,6 +83,17 @@ pub fn put_line(number: u64, answer: Result<(TpsWord, Mended), Refusal>, out: &m
 #[derive(Clone, Debug)]
 pub struct Reader {
     state: SaltReader,
+    decoder: Decoder,
+}
+
+/// The decoder by which the words of a report are read; the report is the same.
+#[derive(Clone, Copy, Debug, Default, PartialEq, Eq, Hash)]
+pub enum Decoder {
+    /// By the field's algebra.
+    #[default]
+    Fast,
+    /// By trying the bits as they are, each single change and each pair.
+    Slow,
 }
 
 impl Default for Reader {
@@ -94,7 +105,19 @@ impl Default for Reader {
 impl Reader {
     /// A reader at the start of the input.
     pub fn new() -> Self {
-        Self { state: call::reader_new() }
+        Self::by(Decoder::Fast)
+    }
+
+    /// A reader at the start of the input, by either decoder.
+    ///
+    /// ```
+    /// use saltkernel::report::{Decoder, Reader};
+    ///
+    /// let [fast, slow] = [Decoder::Fast, Decoder::Slow].map(|decoder| Reader::by(decoder).feed(b"00000000000000001\n"));
+    /// assert_eq!((&fast, fast.as_slice()), (&slow, &b"1 0 4 1/2 1/32 00 1\n"[..]));
+    /// ```
+    pub fn by(decoder: Decoder) -> Self {
+        Self { state: call::reader_new(), decoder }
     }
 
     /// Takes a part of the input, and gives the report's lines for the lines that end in it.
@@ -109,7 +132,10 @@ impl Reader {
 
     /// [`feed`](Self::feed) into a lent output of at least [`LINE_ROOM`] bytes for each of the part; gives the bytes written, or [`Refusal::OutputShort`].
     pub fn feed_into(&mut self, part: &[u8], out: &mut [u8]) -> Result<usize, Refusal> {
-        let fed = call::reader_feed(self.state, part, out);
+        let fed = match self.decoder {
+            Decoder::Fast => call::reader_feed(self.state, part, out),
+            Decoder::Slow => call::reader_feed_slow(self.state, part, out),
+        };
         self.state = fed.reader;
         count_of(fed.answer)
     }
@@ -124,6 +150,9 @@ impl Reader {
 
     /// [`close`](Self::close) into a lent output of at least [`CLOSE_ROOM`] bytes; gives the bytes written, or [`Refusal::OutputShort`].
     pub fn close_into(&self, out: &mut [u8]) -> Result<usize, Refusal> {
-        count_of(call::reader_close(self.state, out))
+        count_of(match self.decoder {
+            Decoder::Fast => call::reader_close(self.state, out),
+            Decoder::Slow => call::reader_close_slow(self.state, out),
+        })
     }
 }

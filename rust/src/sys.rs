@@ -256,6 +256,7 @@ pub struct SaltDecoded {
 extern "C" {
     pub fn salt_tps_bch_encode(info: *const u8, info_length: usize, out: *mut u8, out_length: usize) -> SaltCounted;
     pub fn salt_tps_bch_decode(code: *const u8, code_length: usize, out: *mut u8, out_length: usize) -> SaltDecoded;
+    pub fn salt_tps_bch_decode_slow(code: *const u8, code_length: usize, out: *mut u8, out_length: usize) -> SaltDecoded;
 }
 
 // ---- The TPS word (4.6.2)
@@ -403,17 +404,19 @@ extern "C" {
     pub fn salt_put_line(number: u64, answer: SaltUnpacked, out: *mut u8, out_length: usize) -> SaltCounted;
     pub fn salt_reader_new() -> SaltReader;
     pub fn salt_reader_feed(reader: SaltReader, part: *const u8, part_length: usize, out: *mut u8, out_length: usize) -> SaltReaderFed;
+    pub fn salt_reader_feed_slow(reader: SaltReader, part: *const u8, part_length: usize, out: *mut u8, out_length: usize) -> SaltReaderFed;
     pub fn salt_reader_close(reader: SaltReader, out: *mut u8, out_length: usize) -> SaltCounted;
+    pub fn salt_reader_close_slow(reader: SaltReader, out: *mut u8, out_length: usize) -> SaltCounted;
 }
 
 // ---- The layout
 
 extern "C" {
-    pub fn salt_layout_005dd21b() -> u32;
+    pub fn salt_layout_0dafa308() -> u32;
 }
 
 /// Refers to the layout, so that nothing links with an archive of another one; it is called as a program starts, since
 /// a linker drops nothing of what is.
 #[used]
 #[link_section = ".init_array"]
-static LAYOUT: unsafe extern "C" fn() -> u32 = salt_layout_005dd21b;
+static LAYOUT: unsafe extern "C" fn() -> u32 = salt_layout_0dafa308;

@@ -3,7 +3,7 @@
 use crate::call;
 use crate::packets::count_of;
 use crate::refusal::{accepted, Refusal};
-use crate::sys::{SaltTpsWord, SaltUnpacked, SALT_NO_PLACE, SALT_TPS_CODEWORD_BITS, SALT_TPS_INFORMATION_BITS};
+use crate::sys::{SaltDecoded, SaltTpsWord, SaltUnpacked, SALT_NO_PLACE, SALT_TPS_CODEWORD_BITS, SALT_TPS_INFORMATION_BITS};
 
 /// The bits of a codeword.
 pub const TPS_CODEWORD_BITS: usize = SALT_TPS_CODEWORD_BITS;
@@ -86,8 +86,34 @@ pub fn tps_bch_decode(codeword: &[u8]) -> Result<[u8; TPS_INFO_BITS], Refusal> {
 /// # Ok::<(), saltkernel::Refusal>(())
 /// ```
 pub fn tps_bch_decode_mended(codeword: &[u8]) -> Result<([u8; TPS_INFO_BITS], Mended), Refusal> {
+    decoded(call::tps_bch_decode, codeword)
+}
+
+/// [`tps_bch_decode`] by the slow decoder, which tries the bits as they are, each single change and each pair: the same for every input.
+pub fn tps_bch_decode_slow(codeword: &[u8]) -> Result<[u8; TPS_INFO_BITS], Refusal> {
+    tps_bch_decode_slow_mended(codeword).map(|(information, _)| information)
+}
+
+/// [`tps_bch_decode_slow`], and the bits that were mended.
+///
+/// ```
+/// use saltkernel::waveform::dvb_t_tps::{tps_bch_decode_mended, tps_bch_decode_slow_mended, tps_bch_encode};
+///
+/// let mut word = tps_bch_encode(&[1; 53])?;
+/// for place in [3, 60, 66] {
+///     word[place] ^= 1;
+///     assert_eq!(tps_bch_decode_slow_mended(&word), tps_bch_decode_mended(&word));
+/// }
+/// # Ok::<(), saltkernel::Refusal>(())
+/// ```
+pub fn tps_bch_decode_slow_mended(codeword: &[u8]) -> Result<([u8; TPS_INFO_BITS], Mended), Refusal> {
+    decoded(call::tps_bch_decode_slow, codeword)
+}
+
+/// What a decoder of the library reads.
+fn decoded(decode: fn(&[u8], &mut [u8]) -> SaltDecoded, codeword: &[u8]) -> Result<([u8; TPS_INFO_BITS], Mended), Refusal> {
     let mut out = [0; TPS_INFO_BITS];
-    let answer = call::tps_bch_decode(codeword, &mut out);
+    let answer = decode(codeword, &mut out);
     accepted(answer.number, (out, Mended::of(answer.mended, answer.first, answer.second)))
 }
 

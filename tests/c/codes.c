@@ -9,6 +9,15 @@ static int told(SaltDecoded read, size_t count, size_t first, size_t second) {
     return read.mended == count && read.first == first && read.second == second;
 }
 
+/* The slow decoder answers and leaves the same as the fast one did. */
+static void slowly(const uint8_t *code, SaltDecoded read, const uint8_t *left) {
+    uint8_t back[SALT_TPS_INFORMATION_BITS];
+    memset(back, 9, sizeof back);
+    SaltDecoded slow = salt_tps_bch_decode_slow(code, SALT_TPS_CODEWORD_BITS, back, sizeof back);
+    CHECK(slow.number == read.number && slow.count == read.count && told(slow, read.mended, read.first, read.second));
+    CHECK(memcmp(back, left, sizeof back) == 0);
+}
+
 /* Every codeword with no, one or two wrong bits is read as it was, and the wrong bits are told. */
 static void mended(const uint8_t *info, uint8_t *code) {
     uint8_t back[SALT_TPS_INFORMATION_BITS];
@@ -20,6 +29,9 @@ static void mended(const uint8_t *info, uint8_t *code) {
             SaltDecoded read = salt_tps_bch_decode(code, SALT_TPS_CODEWORD_BITS, back, sizeof back);
             CHECK(read.number == SALT_ACCEPTED && read.count == sizeof back && memcmp(back, info, sizeof back) == 0);
             CHECK(first == second ? told(read, 1, first, SALT_NO_PLACE) : told(read, 2, first, second));
+            if (first % 8 == 0) {
+                slowly(code, read, back);
+            }
             code[first] ^= 1;
             code[second] ^= first == second ? 0 : 1;
         }
@@ -74,7 +86,10 @@ void test_codes(void) {
     none[66 - 7] = none[66 - 3] = none[66] = 1;
     SaltDecoded refused = salt_tps_bch_decode(none, sizeof none, info, sizeof info);
     CHECK(refused.number == SALT_NO_WORD && refused.count == 0 && told(refused, 0, SALT_NO_PLACE, SALT_NO_PLACE));
+    memset(info, 9, sizeof info);
+    slowly(none, refused, info);
     none[0] = 2;
+    CHECK(salt_tps_bch_decode_slow(none, sizeof none, info, 0).number == SALT_NOT_A_BIT);
     CHECK(salt_tps_bch_decode(none, sizeof none, info, 0).number == SALT_NOT_A_BIT);
     CHECK(salt_tps_bch_decode(none, 66, info, 0).number == SALT_LENGTH);
     info[0] = 255;

@@ -69,6 +69,7 @@ static uint8_t grid_extract(const Lent *lent) { return salt_grid_extract(AT(0), 
 /* Functions of TPS. */
 static uint8_t encode(const Lent *lent) { return salt_tps_bch_encode(AT(0), AT(1)).number; }
 static uint8_t decode(const Lent *lent) { return salt_tps_bch_decode(AT(0), AT(1)).number; }
+static uint8_t decode_slow(const Lent *lent) { return salt_tps_bch_decode_slow(AT(0), AT(1)).number; }
 static uint8_t pack(const Lent *lent) { return salt_tps_word_pack(word, AT(0)).number; }
 static uint8_t unpack(const Lent *lent) { return salt_tps_word_unpack(AT(0)).number; }
 static uint8_t next_symbol(const Lent *lent) { return salt_tps_encoder_next_symbol(salt_tps_encoder_new(), 1, AT(0)).answer.number; }
@@ -105,6 +106,8 @@ static uint8_t put_line(const Lent *lent) {
     return salt_put_line(1, answer, AT(0)).number;
 }
 static uint8_t reader_feed(const Lent *lent) { return salt_reader_feed(salt_reader_new(), AT(0), AT(1)).answer.number; }
+static uint8_t reader_feed_slow(const Lent *lent) { return salt_reader_feed_slow(salt_reader_new(), AT(0), AT(1)).answer.number; }
+static uint8_t reader_close_slow(const Lent *lent) { return salt_reader_close_slow(salt_reader_new(), AT(0)).number; }
 static uint8_t reader_close(const Lent *lent) { return salt_reader_close(salt_reader_new(), AT(0)).number; }
 
 static const Function functions[] = {
@@ -134,6 +137,7 @@ static const Function functions[] = {
     {"grid_extract", grid_extract, {{4, SALT_SYMBOL_FLOATS, READ, AT_LEAST}, {4, SALT_STATIC_DATA_FLOATS, FRONT, OUTPUT}}},
     {"tps_bch_encode", encode, {{1, SALT_TPS_INFORMATION_BITS, READ, ONE_LENGTH}, {1, SALT_TPS_CODEWORD_BITS, FRONT, OUTPUT}}},
     {"tps_bch_decode", decode, {{1, SALT_TPS_CODEWORD_BITS, READ, ONE_LENGTH}, {1, SALT_TPS_INFORMATION_BITS, FRONT, OUTPUT}}},
+    {"tps_bch_decode_slow", decode_slow, {{1, SALT_TPS_CODEWORD_BITS, READ, ONE_LENGTH}, {1, SALT_TPS_INFORMATION_BITS, FRONT, OUTPUT}}},
     {"TpsWord::pack", pack, {{1, SALT_TPS_WORD_BITS, FRONT, OUTPUT}}},
     {"TpsWord::unpack", unpack, {{1, SALT_TPS_WORD_BITS, READ, ONE_LENGTH}}},
     {"TpsEncoder::next_symbol", next_symbol, {{4, SALT_TPS_FLOATS, FRONT, OUTPUT}}},
@@ -147,6 +151,8 @@ static const Function functions[] = {
     {"put_heading", put_heading, {{1, SALT_HEADING_BYTES, FRONT, OUTPUT}}},
     {"put_line", put_line, {{1, SALT_LINE_ROOM, FRONT, OUTPUT}}},
     {"Reader::feed", reader_feed, {{1, 2, READ, GROWS}, {1, 2 * SALT_LINE_ROOM, FRONT, OUTPUT}}},
+    {"Reader::feed, slow", reader_feed_slow, {{1, 2, READ, GROWS}, {1, 2 * SALT_LINE_ROOM, FRONT, OUTPUT}}},
+    {"Reader::close, slow", reader_close_slow, {{1, SALT_CLOSE_ROOM, FRONT, OUTPUT}}},
     {"Reader::close", reader_close, {{1, SALT_CLOSE_ROOM, FRONT, OUTPUT}}},
 };
 

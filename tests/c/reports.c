@@ -55,8 +55,11 @@ static void lines_written(void) {
     give_back(&out);
 }
 
-/* A whole input in parts of one size: a word, an empty line, a line of 18 digits, and an open line. */
-static void in_parts(size_t size) {
+typedef SaltReaderFed (*Feed)(SaltReader reader, const uint8_t *part, size_t part_length, uint8_t *out, size_t out_length);
+typedef SaltCounted (*Close)(SaltReader reader, uint8_t *out, size_t out_length);
+
+/* A whole input in parts of one size, by either decoder: a word, an empty line, a line of 18 digits, and an open line. */
+static void in_parts(size_t size, Feed feed, Close end) {
     uint8_t input[SALT_LINE_DIGITS + 23];
     memset(input, '0', sizeof input);
     put_digits(input);
@@ -66,9 +69,9 @@ static void in_parts(size_t size) {
     SaltReader reader = salt_reader_new();
     while (at < sizeof input) {
         size_t length = sizeof input - at < size ? sizeof input - at : size;
-        SaltReaderFed refused = salt_reader_feed(reader, input + at, length, out, SALT_LINE_ROOM * length - 1);
+        SaltReaderFed refused = feed(reader, input + at, length, out, SALT_LINE_ROOM * length - 1);
         CHECK(refused.answer.number == SALT_OUTPUT_SHORT && refused.answer.count == 0 && refused.reader.count == reader.count);
-        SaltReaderFed fed = salt_reader_feed(refused.reader, input + at, length, out, SALT_LINE_ROOM * length);
+        SaltReaderFed fed = feed(refused.reader, input + at, length, out, SALT_LINE_ROOM * length);
         CHECK(fed.answer.number == SALT_ACCEPTED);
         memcpy(text + count, out, fed.answer.count);
         reader = fed.reader;
@@ -76,7 +79,7 @@ static void in_parts(size_t size) {
         at += length;
     }
     CHECK(reader.lines == 3 && reader.refused == 2 && reader.count == 2);
-    SaltCounted closed = salt_reader_close(reader, text + count, SALT_CLOSE_ROOM);
+    SaltCounted closed = end(reader, text + count, SALT_CLOSE_ROOM);
     static const char whole[] = "1 2 16 5/6 1/8 ab 0\n2 refused 9\n3 refused 9\n4 refused 9\nread 4 refused 3\n";
     CHECK(closed.number == SALT_ACCEPTED && count + closed.count == strlen(whole) && memcmp(text, whole, strlen(whole)) == 0);
 }
@@ -85,6 +88,7 @@ void test_reports(void) {
     lines_read();
     lines_written();
     for (size_t size = 1; size <= SALT_LINE_DIGITS + 23; size++) {
-        in_parts(size);
+        in_parts(size, salt_reader_feed, salt_reader_close);
+        in_parts(size, salt_reader_feed_slow, salt_reader_close_slow);
     }
 }

@@ -75,7 +75,7 @@ mended-length w (One i) = flip-length w i
 mended-length w (Two i j) = flip-length (flip w i) j ∙ flip-length w i
 mended-length w NoWord = refl
 
-mended-bits : (w : List ℕ) (r : Found) → Bits w → Bits (mended w r)
+pub mended-bits : (w : List ℕ) (r : Found) → Bits w → Bits (mended w r)
 mended-bits w Clean h = h
 mended-bits w (One i) h = flip-bits w i h
 mended-bits w (Two i j) h = flip-bits (flip w i) j (flip-bits w i h)

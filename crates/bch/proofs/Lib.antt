@@ -28,3 +28,5 @@ pub mod Exactly
 pub mod Facts
 pub mod ThreeWrong
 pub mod MendedPlaces
+pub mod TriedChanges
+pub mod Decoders

@@ -73,14 +73,14 @@ near-neighbours (suc k) j (b ∷ w) (x ∷ c) hc hw l m h =
 
 -- ---- the test of a codeword, and the first codeword of a list
 
-codeword-by-test : (w : List ℕ) → isCodeword w ≡ true → Codeword w
+pub codeword-by-test : (w : List ℕ) → isCodeword w ≡ true → Codeword w
 unfolding isCodeword
 codeword-by-test w e =
     let s = and-eq-true-iff (eqb (length w) 67) (areBits w && eqb (remainderOf 0 w) 0) .0 e in
     let t = and-eq-true-iff (areBits w) (eqb (remainderOf 0 w) 0) .0 (s .1) in
     record { size = eqb-true (length w) 67 (s .0); bits = bits-of w (t .0); divided = eqb-true (remainderOf 0 w) 0 (t .1) }
 
-test-of-codeword : (w : List ℕ) → Codeword w → isCodeword w ≡ true
+pub test-of-codeword : (w : List ℕ) → Codeword w → isCodeword w ≡ true
 unfolding isCodeword
 test-of-codeword w h = ap₂ _&&_ (eq-eqb (length w) 67 (h .size)) (ap₂ _&&_ (are-bits w (h .bits)) (eq-eqb (remainderOf 0 w) 0 (h .divided)))
 

@@ -1,5 +1,6 @@
--- The decoder's search, which the functions of the module `search` promise: what changed places add to the remainder,
--- the search for the locator's roots, and the bits with the places flipped. No public promise cites this file.
+-- The decoders' searches, which the functions of the modules `search` and `slow` promise: what changed places add to
+-- the remainder, the search for the locator's roots, and the bits with the places flipped. No public promise cites
+-- this file.
 use mathlib.Core.Path.{_≡_}
 use mathlib.Core.List.{List, [], _∷_}
 use Prim.Native.Nat.{ℕ, zero, suc, _-_, _^_, _≤_, _<_}
@@ -94,6 +95,17 @@ named Clean = []
 named (One i) = i ∷ []
 named (Two i j) = i ∷ j ∷ []
 named NoWord = []
+
+-- the slow decoder has moved on from the place k to r, past no change that makes a codeword of w
+pub record PastChanges (w : List ℕ) (k r : ℕ) : Type 0 where
+  pub on : k ≤ r
+  pub within : r ≤ 67
+  pub none : (i : ℕ) → k ≤ i → i < r → Codeword (flip w i) → ⊥
+
+-- the same, and a change of the place r makes one, or r is past the 67 places
+pub record NextChange (w : List ℕ) (k r : ℕ) : Type 0 where
+  pub past : PastChanges w k r
+  pub makes : r < 67 → Codeword (flip w r)
 
 -- what is promised of the bits: at most two rising places below 67 whose change makes a codeword of w, or there is
 -- none within distance two

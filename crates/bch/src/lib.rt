@@ -1,10 +1,10 @@
-// The TPS code BCH(67,53): its encoder and its decoder (EN 300 744, 4.6.2.11).
+// The TPS code BCH(67,53): its encoder and its decoders (EN 300 744, 4.6.2.11).
 ghost use mathlib.Core.Path.{_≡_};
 ghost use Prim.Native.Nat.{_≤_};
 ghost use lib.ListN.{length, take};
 ghost use Rattle.ground.specs.Bits.{Bits};
 ghost use Rattle.bch.specs.Code.{encode};
-ghost use Rattle.bch.specs.Search.{flip, mended, named};
+ghost use Rattle.bch.specs.Search.{flip, mended, named, Changes};
 ghost use Rattle.bch.specs.Promise.{encodeAnswer, encodeLeaves, mendedAt, Decodes};
 use ground::Counted;
 use search::Found;
@@ -13,6 +13,7 @@ mod field;
 pub mod inner;
 mod remainder;
 mod search;
+mod slow;
 
 // A place that stands for none.
 pub const NO_PLACE: u8 = 255;
@@ -22,6 +23,12 @@ pub struct Mended {
     pub count: u8,
     pub first: u8,
     pub second: u8,
+}
+
+// How the changed bits are found: by the field's algebra, or by trying each change, which anyone can follow.
+pub enum Decoder {
+    Fast,
+    Slow,
 }
 
 // The bits that were changed where the information was written, or the refusal's number.
@@ -133,9 +140,20 @@ fn mended_at(found: Found) -> Mended
     }
 }
 
+// The changed places of 67 bits, by either decoder.
+fn changes_by(decoder: Decoder, code: &[u8]) -> Found
+    requires { ⌜ Bits (now code) × (length (now code) ≡ 67) ⌝ }
+    ensures { λ r. ⌜ Changes (now (code .entry)) r ⌝ }
+{
+    match decoder {
+        Decoder::Fast => search::changes(code),
+        Decoder::Slow => slow::changes(code),
+    }
+}
+
 // The 53 information bits of the codeword within distance two of 67 bits, written to the lent output, and the bits
-// that were changed (EN 300 744, 4.6.2.11).
-pub fn tps_bch_decode(code: &[u8], out: &mut [u8]) -> Decoded
+// that were changed, by either decoder (EN 300 744, 4.6.2.11).
+pub fn tps_bch_decode_by(decoder: Decoder, code: &[u8], out: &mut [u8]) -> Decoded
     ensures { λ r. ⌜ Decodes (now (code .entry)) (now (out .entry)) r (now (out .exit)) ⌝ }
 {
     if code.len() != 67 {
@@ -147,10 +165,24 @@ pub fn tps_bch_decode(code: &[u8], out: &mut [u8]) -> Decoded
     if out.len() < 53 {
         return Decoded::Refused(ground::OUTPUT_SHORT);
     }
-    let found = search::changes(code);
+    let found = changes_by(decoder, code);
     if let Found::NoWord = found {
         return Decoded::Refused(ground::NO_WORD);
     }
     put_information(code, found, &mut out[..53]);
     Decoded::Information(mended_at(found))
+}
+
+// The same by the fast decoder.
+pub fn tps_bch_decode(code: &[u8], out: &mut [u8]) -> Decoded
+    ensures { λ r. ⌜ Decodes (now (code .entry)) (now (out .entry)) r (now (out .exit)) ⌝ }
+{
+    tps_bch_decode_by(Decoder::Fast, code, out)
+}
+
+// The same by the slow decoder, which tries the bits as they are, each single change and each pair.
+pub fn tps_bch_decode_slow(code: &[u8], out: &mut [u8]) -> Decoded
+    ensures { λ r. ⌜ Decodes (now (code .entry)) (now (out .entry)) r (now (out .exit)) ⌝ }
+{
+    tps_bch_decode_by(Decoder::Slow, code, out)
 }

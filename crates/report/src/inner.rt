@@ -1,6 +1,7 @@
 // For the crates above: the open line of an input that comes in parts, its end in a part, and its answer.
 ghost use mathlib.Core.Path.{_≡_};
 ghost use Rattle.report.specs.OpenLine.{openAnswer, takeAnswer, takeLeaves};
+use tps::Decoder;
 use tps::Unpacked;
 
 // A line that hasn't ended: its first 17 characters, and how many it has, 18 where they are more.
@@ -48,13 +49,20 @@ pub fn take(held: &mut [u8; 17], count: usize, part: &[u8], from: usize) -> Take
 }
 
 impl OpenLine {
-    // The answer to the line, where it ends here.
-    pub fn answer(self) -> Unpacked
+    // The answer to the line, where it ends here, by either decoder.
+    pub fn answer_by(self, decoder: Decoder) -> Unpacked
         ensures { λ r. ⌜ r ≡ openAnswer self ⌝ }
     {
         if self.count != 17 {
             return Unpacked::Refused(ground::BAD_LINE);
         }
-        super::read_line(&self.held)
+        super::read_line_by(decoder, &self.held)
+    }
+
+    // The same by the fast decoder.
+    pub fn answer(self) -> Unpacked
+        ensures { λ r. ⌜ r ≡ openAnswer self ⌝ }
+    {
+        self.answer_by(Decoder::Fast)
     }
 }

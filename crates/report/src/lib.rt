@@ -6,6 +6,7 @@ ghost use Rattle.report.specs.Stream.{fresh};
 ghost use Rattle.report.specs.Calls.{headingAnswer, headingLeaves, lineAnswer, lineLeaves};
 ghost use Rattle.report.specs.Calls.{feedAnswer, feedLeaves, closeAnswer, closeLeaves};
 use ground::Counted;
+use tps::Decoder;
 use tps::TpsWord;
 use tps::Unpacked;
 
@@ -36,8 +37,8 @@ pub struct Fed {
     pub reader: Reader,
 }
 
-// What a line says: the word of its 17 digits and the bits that were changed, or the refusal.
-pub fn read_line(line: &[u8]) -> Unpacked
+// What a line says: the word of its 17 digits and the bits that were changed, or the refusal; by either decoder.
+pub(crate) fn read_line_by(decoder: Decoder, line: &[u8]) -> Unpacked
     ensures { λ r. ⌜ r ≡ readAnswer (now (line .entry)) ⌝ }
 {
     if line.len() != 17 {
@@ -47,7 +48,14 @@ pub fn read_line(line: &[u8]) -> Unpacked
         return Unpacked::Refused(ground::BAD_LINE);
     }
     let bits = reading::bits_of(line);
-    TpsWord::unpack(&bits)
+    TpsWord::unpack_by(decoder, &bits)
+}
+
+// The same by the fast decoder.
+pub fn read_line(line: &[u8]) -> Unpacked
+    ensures { λ r. ⌜ r ≡ readAnswer (now (line .entry)) ⌝ }
+{
+    read_line_by(Decoder::Fast, line)
 }
 
 // Writes the report's heading.
@@ -85,8 +93,8 @@ impl Reader {
         }
     }
 
-    // Takes a part of the input, and writes the lines of the report for the lines that end in it.
-    pub fn feed(self, part: &[u8], out: &mut [u8]) -> Fed
+    // Takes a part of the input, and writes the lines of the report for the lines that end in it, by either decoder.
+    pub fn feed(self, decoder: Decoder, part: &[u8], out: &mut [u8]) -> Fed
         ensures answer { λ r. ⌜ r ≡ feedAnswer self (now (part .entry)) (now (out .entry)) ⌝ }
         ensures output { λ _. ⌜ now (out .exit) ≡ feedLeaves self (now (part .entry)) (now (out .entry)) ⌝ }
     {
@@ -96,7 +104,7 @@ impl Reader {
                 reader: self,
             };
         }
-        let end = stream::put_part(self, part, out);
+        let end = stream::put_part(decoder, self, part, out);
         let reader = end.reader;
         Fed {
             answer: Counted::Count(end.at),
@@ -104,14 +112,14 @@ impl Reader {
         }
     }
 
-    // Ends the input: writes the line of a line that is open there, and the closing line.
-    pub fn close(self, out: &mut [u8]) -> Counted
+    // Ends the input: writes the line of a line that is open there, read by either decoder, and the closing line.
+    pub fn close(self, decoder: Decoder, out: &mut [u8]) -> Counted
         ensures answer { λ r. ⌜ r ≡ closeAnswer self (now (out .entry)) ⌝ }
         ensures output { λ _. ⌜ now (out .exit) ≡ closeLeaves self (now (out .entry)) ⌝ }
     {
         if out.len() < 2 * LINE_ROOM {
             return Counted::Refused(ground::OUTPUT_SHORT);
         }
-        Counted::Count(stream::put_close(self, out))
+        Counted::Count(stream::put_close(decoder, self, out))
     }
 }

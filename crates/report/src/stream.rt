@@ -10,6 +10,7 @@ use super::Reader;
 use super::inner;
 use super::inner::OpenLine;
 use super::text;
+use tps::Decoder;
 use tps::Unpacked;
 
 // The counts of lines and of refused lines, and the place behind the text, after a line has ended.
@@ -47,11 +48,18 @@ fn refusals_of(answer: Unpacked) -> u64
 }
 
 // Ends the open line: writes its line of the report, and counts it.
-fn end_line(line: OpenLine, lines: u64, refused: u64, out: &mut [u8], at: usize) -> Ended
+fn end_line(
+    decoder: Decoder,
+    line: OpenLine,
+    lines: u64,
+    refused: u64,
+    out: &mut [u8],
+    at: usize,
+) -> Ended
     requires { ⌜ at + lineRoom ≤ length (now out) ⌝ }
     ensures { λ r. ⌜ Ends line lines refused (now (out .entry)) at r (now (out .exit)) ⌝ }
 {
-    let answer = line.answer();
+    let answer = line.answer_by(decoder);
     let number = std::num::wrapping_add_u64(lines, 1);
     let missed = std::num::wrapping_add_u64(refused, refusals_of(answer));
     let next = text::put_answer(out, at, number, answer);
@@ -63,7 +71,7 @@ fn end_line(line: OpenLine, lines: u64, refused: u64, out: &mut [u8], at: usize)
 }
 
 // Takes a part of the input, and writes the lines of the report from the output's front on.
-pub(crate) fn put_part(reader: Reader, part: &[u8], out: &mut [u8]) -> PartEnd
+pub(crate) fn put_part(decoder: Decoder, reader: Reader, part: &[u8], out: &mut [u8]) -> PartEnd
     requires { ⌜ partRoom (now part) ≤ length (now out) ⌝ }
     ensures { λ r. ⌜ PutsPart reader (now (part .entry)) (now (out .entry)) r (now (out .exit)) ⌝ }
 {
@@ -78,7 +86,7 @@ pub(crate) fn put_part(reader: Reader, part: &[u8], out: &mut [u8]) -> PartEnd
         i = taken.next;
         line.count = taken.count;
         if taken.ended {
-            let ended = end_line(line, lines, refused, out, at);
+            let ended = end_line(decoder, line, lines, refused, out, at);
             lines = ended.lines;
             refused = ended.refused;
             at = ended.at;
@@ -98,7 +106,7 @@ pub(crate) fn put_part(reader: Reader, part: &[u8], out: &mut [u8]) -> PartEnd
 }
 
 // Ends the input: writes the line of an open line and the closing line, from the output's front on.
-pub(crate) fn put_close(reader: Reader, out: &mut [u8]) -> usize
+pub(crate) fn put_close(decoder: Decoder, reader: Reader, out: &mut [u8]) -> usize
     requires { ⌜ closeRoom ≤ length (now out) ⌝ }
     ensures text { λ r. ⌜ Put (now (out .entry)) 0 (closeText reader) (now (out .exit)) r ⌝ }
     ensures room { λ r. ⌜ r ≤ closeRoom ⌝ }
@@ -106,6 +114,13 @@ pub(crate) fn put_close(reader: Reader, out: &mut [u8]) -> usize
     if reader.count == 0 {
         return text::put_closing(out, 0, reader.lines, reader.refused);
     }
-    let ended = end_line(line_of(reader), reader.lines, reader.refused, out, 0);
+    let ended = end_line(
+        decoder,
+        line_of(reader),
+        reader.lines,
+        reader.refused,
+        out,
+        0,
+    );
     text::put_closing(out, ended.at, ended.lines, ended.refused)
 }

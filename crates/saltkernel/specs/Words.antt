@@ -76,7 +76,8 @@ packLeaves c out = kept (packNo c out) (written (bitsIn (wordIn c)) out) out
 -- the codes and the mended bits for each case of an answer
 abbrev pub unpackedCodes : Unpacked → SaltTpsWord
 unpackedCodes (Word w m) = codesFor (codesOf w)
-unpackedCodes (Refused k) = record { «frame_number» = 0; constellation = 0; «code_rate_hp» = 0; guard = 0; «cell_id» = 0 }
+unpackedCodes (Refused k) =
+    record { «frame_number» = 0; constellation = 0; «code_rate_hp» = 0; guard = 0; «cell_id» = 0 }
 
 abbrev pub unpackedMended : Unpacked → Mended
 unpackedMended (Word w m) = m

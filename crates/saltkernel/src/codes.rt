@@ -8,6 +8,7 @@ use super::numbers_of;
 use super::sizes::NO_PLACE;
 use super::sizes::TPS_INFORMATION_BITS;
 use bch::Decoded;
+use bch::Decoder;
 
 // A count of information bits and the bits that were changed, or a refusal's number, the counts 0 and no place.
 #[repr(C)]
@@ -57,5 +58,14 @@ pub extern "C" fn salt_tps_bch_encode(info: &[u8], out: &mut [u8]) -> SaltCounte
 pub extern "C" fn salt_tps_bch_decode(code: &[u8], out: &mut [u8]) -> SaltDecoded
     ensures { λ r. ⌜ DecodesAs (now (code .entry)) (now (out .entry)) r (now (out .exit)) ⌝ }
 {
-    decoded_numbers_of(bch::tps_bch_decode(code, out))
+    decoded_numbers_of(bch::tps_bch_decode_by(Decoder::Fast, code, out))
+}
+
+// The same by the slow decoder, which tries the bits as they are, each single change and each pair.
+// Refusals: 1 LENGTH (not 67), 2 NOT A BIT, 3 OUTPUT SHORT, 4 NO WORD.
+#[no_mangle]
+pub extern "C" fn salt_tps_bch_decode_slow(code: &[u8], out: &mut [u8]) -> SaltDecoded
+    ensures { λ r. ⌜ DecodesAs (now (code .entry)) (now (out .entry)) r (now (out .exit)) ⌝ }
+{
+    decoded_numbers_of(bch::tps_bch_decode_by(Decoder::Slow, code, out))
 }

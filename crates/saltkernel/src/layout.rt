@@ -6,8 +6,8 @@ ghost use mathlib.Core.Path.{_≡_};
 
 // The number of the layout.
 #[no_mangle]
-pub extern "C" fn salt_layout_005dd21b() -> u32
-    ensures { λ r. ⌜ r ≡ 6148635 ⌝ }
+pub extern "C" fn salt_layout_0dafa308() -> u32
+    ensures { λ r. ⌜ r ≡ 229614344 ⌝ }
 {
-    6148635
+    229614344
 }

@@ -16,6 +16,7 @@ use super::words::SaltUnpacked;
 use super::words::unpacked_numbers_of;
 use super::words::word_of;
 use report::Reader;
+use tps::Decoder;
 use tps::Mended;
 use tps::Unpacked;
 use tps::inner::WordRead;
@@ -58,6 +59,28 @@ fn answer_of(answer: SaltUnpacked) -> Unpacked
         second: answer.second,
     };
     Unpacked::Word(known, mended)
+}
+
+// The text of a part, its lines read by either decoder.
+fn fed_by(decoder: Decoder, reader: Reader, part: &[u8], out: &mut [u8]) -> SaltReaderFed
+    ensures answer { λ r. ⌜ SaysReaderFed r (feedAnswer reader (now (part .entry)) (now (out .entry))) ⌝ }
+    ensures output { λ _. ⌜ now (out .exit) ≡ feedLeaves reader (now (part .entry)) (now (out .entry)) ⌝ }
+{
+    let fed = reader.feed(decoder, part, out);
+    let answer = fed.answer;
+    let next = fed.reader;
+    SaltReaderFed {
+        answer: numbers_of(answer),
+        reader: next,
+    }
+}
+
+// The text at the end of the input, its open line read by either decoder.
+fn closed_by(decoder: Decoder, reader: Reader, out: &mut [u8]) -> SaltCounted
+    ensures answer { λ r. ⌜ Says r (closeAnswer reader (now (out .entry))) ⌝ }
+    ensures output { λ _. ⌜ now (out .exit) ≡ closeLeaves reader (now (out .entry)) ⌝ }
+{
+    numbers_of(reader.close(decoder, out))
 }
 
 // The word that a line says, given without its newline, with up to two wrong bits mended; s0 is ignored.
@@ -119,13 +142,21 @@ pub extern "C" fn salt_reader_feed(reader: Reader, part: &[u8], out: &mut [u8]) 
     ensures answer { λ r. ⌜ SaysReaderFed r (feedAnswer reader (now (part .entry)) (now (out .entry))) ⌝ }
     ensures output { λ _. ⌜ now (out .exit) ≡ feedLeaves reader (now (part .entry)) (now (out .entry)) ⌝ }
 {
-    let fed = reader.feed(part, out);
-    let answer = fed.answer;
-    let next = fed.reader;
-    SaltReaderFed {
-        answer: numbers_of(answer),
-        reader: next,
-    }
+    fed_by(Decoder::Fast, reader, part, out)
+}
+
+// The same by the slow decoder, with the same text.
+// Refusals: 3 OUTPUT SHORT (room for fewer than 60 a byte of the part).
+#[no_mangle]
+pub extern "C" fn salt_reader_feed_slow(
+    reader: Reader,
+    part: &[u8],
+    out: &mut [u8],
+) -> SaltReaderFed
+    ensures answer { λ r. ⌜ SaysReaderFed r (feedAnswer reader (now (part .entry)) (now (out .entry))) ⌝ }
+    ensures output { λ _. ⌜ now (out .exit) ≡ feedLeaves reader (now (part .entry)) (now (out .entry)) ⌝ }
+{
+    fed_by(Decoder::Slow, reader, part, out)
 }
 
 // Ends the input: writes the report's line for a line that is open there, and the closing line. Answers the bytes
@@ -136,5 +167,15 @@ pub extern "C" fn salt_reader_close(reader: Reader, out: &mut [u8]) -> SaltCount
     ensures answer { λ r. ⌜ Says r (closeAnswer reader (now (out .entry))) ⌝ }
     ensures output { λ _. ⌜ now (out .exit) ≡ closeLeaves reader (now (out .entry)) ⌝ }
 {
-    numbers_of(reader.close(out))
+    closed_by(Decoder::Fast, reader, out)
+}
+
+// The same by the slow decoder, with the same text.
+// Refusals: 3 OUTPUT SHORT (room for fewer than 120).
+#[no_mangle]
+pub extern "C" fn salt_reader_close_slow(reader: Reader, out: &mut [u8]) -> SaltCounted
+    ensures answer { λ r. ⌜ Says r (closeAnswer reader (now (out .entry))) ⌝ }
+    ensures output { λ _. ⌜ now (out .exit) ≡ closeLeaves reader (now (out .entry)) ⌝ }
+{
+    closed_by(Decoder::Slow, reader, out)
 }

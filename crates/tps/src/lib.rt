@@ -8,6 +8,7 @@ pub mod word;
 // The symbols of a frame, and the bits of its word: one each (EN 300 744, 4.6.2).
 pub const TPS_SYMBOLS_PER_FRAME: usize = 68;
 
+pub use bch::Decoder;
 pub use bch::Mended;
 pub use bch::NO_PLACE;
 pub use receiver::Fed;

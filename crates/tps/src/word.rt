@@ -11,6 +11,7 @@ use super::inner;
 use super::inner::Codes;
 use super::inner::WordRead;
 use bch::Decoded;
+use bch::Decoder;
 use bch::Mended;
 use ground::ConstellationOrder;
 use ground::Counted;
@@ -110,8 +111,9 @@ impl TpsWord {
         Counted::Count(TPS_SYMBOLS_PER_FRAME)
     }
 
-    // The word of the codeword within distance two of s1..s67, and the bits that were changed (EN 300 744, 4.6.2).
-    pub fn unpack(bits: &[u8]) -> Unpacked
+    // The word of the codeword within distance two of s1..s67, and the bits that were changed, by either decoder
+    // (EN 300 744, 4.6.2).
+    pub fn unpack_by(decoder: Decoder, bits: &[u8]) -> Unpacked
         ensures { λ r. ⌜ Unpacks (now (bits .entry)) r ⌝ }
     {
         if bits.len() != TPS_SYMBOLS_PER_FRAME {
@@ -125,12 +127,20 @@ impl TpsWord {
             return Unpacked::Refused(ground::NOT_A_BIT);
         }
         let mut information = [0u8; 53];
-        let Decoded::Information(mended) = bch::tps_bch_decode(code, &mut information) else {
+        let Decoded::Information(mended) = bch::tps_bch_decode_by(decoder, code, &mut information)
+        else {
             return Unpacked::Refused(ground::NO_WORD);
         };
         let WordRead::Known(word) = inner::word_of(read_codes(&information)) else {
             return Unpacked::Refused(ground::RESERVED);
         };
         Unpacked::Word(word, mended)
+    }
+
+    // The same by the fast decoder.
+    pub fn unpack(bits: &[u8]) -> Unpacked
+        ensures { λ r. ⌜ Unpacks (now (bits .entry)) r ⌝ }
+    {
+        TpsWord::unpack_by(Decoder::Fast, bits)
     }
 }

@@ -6,10 +6,10 @@ use Rattle.tpsreport.proofs.run.Statement.{statement}
 use Rattle.tpsreport.proofs.run.Tie as tie
 
 abbrev Inv-loop : tie.InvT-loop
-Inv-loop part₀ text₀ reader₀ turns₀ part text reader turns = (length part ≡ length part₀) × (length text ≡ length text₀)
+Inv-loop decoder part₀ text₀ reader₀ turns₀ part text reader turns = (length part ≡ length part₀) × (length text ≡ length text₀)
 
 abbrev μ-loop : tie.MeasureT-loop
-μ-loop part₀ text₀ reader₀ turns₀ part text reader turns = turns
+μ-loop decoder part₀ text₀ reader₀ turns₀ part text reader turns = turns
 
 put-heading-requires : tie.Need-put-heading-requires Inv-loop μ-loop
 put-heading-requires c κs = search needs

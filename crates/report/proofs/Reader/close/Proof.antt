@@ -24,7 +24,7 @@ returns-2 c =
     let p = c .before .before .put-close in
     let i = c .before .before .before .before in
     let s = i .before .before .args in
-    text-written 120 (closeText (s .self)) (s .out .now) (p .result) (p .last .1 .0) (i .if1 .left) (p .ensures .1) (p .ensures .0)
+    text-written 120 (closeText (s .self)) (s .out .now) (p .result) (p .last .1 .1 .0) (i .if1 .left) (p .ensures .1) (p .ensures .0)
 
 pub close-spec : {M : Type 1} → statement M
 close-spec = tie.close (tie.spec mul-if1 returns put-close-requires same-length returns-2)

@@ -20,7 +20,7 @@ returns-2 : tie.Need-returns-2
 returns-2 c =
     let t = c .before .before .before .put-part in
     let s = c .before .before .before .before .before .before .before .before .args in
-    part-written (s .self) (s .part .now) (s .out .now) (t .result) (t .last .1 .1 .0) (omega arith) (t .ensures)
+    part-written (s .self) (s .part .now) (s .out .now) (t .result) (t .last .1 .1 .1 .0) (omega arith) (t .ensures)
 
 pub feed-spec : {M : Type 1} → statement M
 feed-spec = tie.close (tie.spec returns put-part-requires same-length returns-2)

@@ -6,8 +6,8 @@ use borrow.Author.Needs.{needs}
 use Rattle.report.proofs.stream.end_line.Statement.{statement}
 use Rattle.report.proofs.stream.end_line.Tie as tie
 
-answer-requires : tie.Need-answer-requires
-answer-requires c κs = search needs
+answer-by-requires : tie.Need-answer-by-requires
+answer-by-requires c κs = search needs
 
 wrapping-add-u64-requires : tie.Need-wrapping-add-u64-requires
 wrapping-add-u64-requires c κs = search needs
@@ -29,7 +29,7 @@ returns c =
     let c-missed = c .before .before .before .before in
     let c-number = c-missed .before .before in
     let s = c-number .before .before .before .args in
-    let a = c-number .before .answer .ensures in
+    let a = c-number .before .answer-by .ensures in
     let n = c-number .wrapping-add-u64 .ensures in
     let p = c .before .before .put-answer .ensures in
     record {
@@ -43,7 +43,7 @@ pub end-line-spec : {M : Type 1} → statement M
 end-line-spec =
     tie.close
     (tie.spec
-    answer-requires
+    answer-by-requires
     wrapping-add-u64-requires
     refusals-of-requires
     wrapping-add-u64-requires-2

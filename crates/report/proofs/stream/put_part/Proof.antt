@@ -9,11 +9,11 @@ use Rattle.report.proofs.stream.put_part.Statement.{statement}
 use Rattle.report.proofs.stream.put_part.Tie as tie
 
 abbrev Inv-loop : tie.InvT-loop
-Inv-loop part out₀ line₀ lines₀ refused₀ at₀ i₀ out line lines refused at i =
+Inv-loop decoder part out₀ line₀ lines₀ refused₀ at₀ i₀ out line lines refused at i =
     Reached line₀ lines₀ refused₀ part out₀ i line lines refused out at
 
 abbrev μ-loop : tie.MeasureT-loop
-μ-loop part out₀ line₀ lines₀ refused₀ at₀ i₀ out line lines refused at i = length part - i
+μ-loop decoder part out₀ line₀ lines₀ refused₀ at₀ i₀ out line lines refused at i = length part - i
 
 line-of-requires : tie.Need-line-of-requires Inv-loop μ-loop
 line-of-requires c κs = search needs

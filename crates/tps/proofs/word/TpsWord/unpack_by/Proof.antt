@@ -1,4 +1,4 @@
--- `tps::word::TpsWord::unpack` meets its contract: the tests give the number, and the answer is what the decoder's
+-- `tps::word::TpsWord::unpack_by` meets its contract: the tests give the number, and the answer is what the decoder's
 -- information tells. Assumes nothing.
 use mathlib.Core.Path.{_≡_, sym, ap, _∙_}
 use mathlib.Core.Bool.{true}
@@ -11,14 +11,14 @@ use Rattle.tps.specs.Packing.{unpackedBy, Unpacks}
 use Rattle.tps.proofs.Unpacking.{first-not-bit, rest-not-bits, all-bits, unpack-length, unpack-not-bit, unpack-no-word, information-bits, unpack-word}
 use borrow.Author.Tests.{not-true, not-false}
 use borrow.Author.Needs.{needs}
-use Rattle.tps.proofs.word.TpsWord.unpack.Statement.{statement}
-use Rattle.tps.proofs.word.TpsWord.unpack.Tie as tie
+use Rattle.tps.proofs.word.TpsWord.unpack_by.Statement.{statement}
+use Rattle.tps.proofs.word.TpsWord.unpack_by.Tie as tie
 
 -- once the decoder has answered, the bits are 68, and each is a bit
-sized : (c : tie.After-tps-bch-decode) → length (c .before .before .before .before .before .before .before .before .before .args .bits .now) ≡ 68
+sized : (c : tie.After-tps-bch-decode-by) → length (c .before .before .before .before .before .before .before .before .before .args .bits .now) ≡ 68
 sized c = c .before .before .before .before .before .before .before .if1 .left
 
-bits : (c : tie.After-tps-bch-decode) → areBits (c .before .before .before .before .before .before .before .before .before .args .bits .now) ≡ true
+bits : (c : tie.After-tps-bch-decode-by) → areBits (c .before .before .before .before .before .before .before .before .before .args .bits .now) ≡ true
 bits c =
     let r = c .before .before .before .all-bits in
     all-bits (c .before .before .before .before .before .before .before .before .before .args .bits .now) (sized c) (c .before .before .before .before .before .if2 .left) (sym (r .ensures) ∙ not-false (r .result) (c .before .before .if3 .left))
@@ -41,15 +41,15 @@ returns-4 : tie.Need-returns-4
 returns-4 c =
     let d = c .before .before .before in
     let z = d .before .before .before .before .before .before .before .before .before .args .bits .now in
-    let r = d .tps-bch-decode in
-    unpack-no-word z (sized d) (bits d) (r .result) (r .last .1 .0) (r .ensures) (c .enum-told .given .0 .0) (c .enum-told .given .1)
+    let r = d .tps-bch-decode-by in
+    unpack-no-word z (sized d) (bits d) (r .result) (r .last .1 .1 .0) (r .ensures) (c .enum-told .given .0 .0) (c .enum-told .given .1)
 
 read-codes-requires : tie.Need-read-codes-requires
 read-codes-requires c κs =
     let d = c .before .before .before .before .before in
     let z = d .before .before .before .before .before .before .before .before .before .args .bits .now in
-    let r = d .tps-bch-decode in
-    information-bits z (sized d) (bits d) (r .result) (r .last .1 .0) (r .ensures) _ (c .before .before .mended .given .1)
+    let r = d .tps-bch-decode-by in
+    information-bits z (sized d) (bits d) (r .result) (r .last .1 .1 .0) (r .ensures) _ (c .before .before .mended .given .1)
 
 -- once the codes are read, the answer is by what they say
 says : (c : tie.After-word-of) (x : WordRead) → c .word-of .result ≡ x
@@ -58,9 +58,9 @@ says : (c : tie.After-word-of) (x : WordRead) → c .word-of .result ≡ x
 says c x e =
     let d = c .before .before .before .before .before .before .before in
     let z = d .before .before .before .before .before .before .before .before .before .args .bits .now in
-    let r = d .tps-bch-decode in
+    let r = d .tps-bch-decode-by in
     let t = c .before .before .before .before .mended .given in
-    unpack-word z (sized d) (bits d) (r .result) (r .last .1 .0) (r .ensures) (t .0 .0) (t .1) (unpackedBy x (t .0 .0))
+    unpack-word z (sized d) (bits d) (r .result) (r .last .1 .1 .0) (r .ensures) (t .0 .0) (t .1) (unpackedBy x (t .0 .0))
     (ap (λ (y : WordRead). unpackedBy y (t .0 .0)) (sym e ∙ c .word-of .ensures ∙ ap wordOf (c .before .read-codes .ensures)))
 
 returns-5 : tie.Need-returns-5
@@ -69,8 +69,8 @@ returns-5 c = says (c .before .before) Reserved (c .enum-told2 .given .1)
 returns-6 : tie.Need-returns-6
 returns-6 c = says (c .before .before .before) (Known (c .before .word .given .0 .0)) (c .before .word .given .1)
 
-pub unpack-spec : {M : Type 1} → statement M
-unpack-spec =
+pub unpack-by-spec : {M : Type 1} → statement M
+unpack-by-spec =
     tie.close
     (tie.spec
     returns

@@ -1,10 +1,10 @@
--- `report::read_line` meets its contract: each way out gives what the line says. Assumes nothing.
+-- `report::read_line_by` meets its contract: each way out gives what the line says. Assumes nothing.
 use mathlib.Core.Path.{sym, _∙_}
 use borrow.Author.Tests.{not-true, not-false}
 use Rattle.report.proofs.LineAnswers.{other-length-refused, no-digits-refused, digits-unpacked}
 use borrow.Author.Needs.{needs}
-use Rattle.report.proofs.read_line.Statement.{statement}
-use Rattle.report.proofs.read_line.Tie as tie
+use Rattle.report.proofs.read_line_by.Statement.{statement}
+use Rattle.report.proofs.read_line_by.Tie as tie
 
 returns : tie.Need-returns
 returns c = other-length-refused (c .before .before .args .line .now) (c .if1 .taken)
@@ -19,11 +19,11 @@ returns-2 c =
 bits-of-requires : tie.Need-bits-of-requires
 bits-of-requires c κs = (c .before .before .if1 .left, sym (c .before .all-digits .ensures) ∙ not-false _ (c .if2 .left))
 
-slice-aggregate-unpack : tie.Need-slice-aggregate-unpack
-slice-aggregate-unpack c = search needs
+slice-aggregate-unpack-by : tie.Need-slice-aggregate-unpack-by
+slice-aggregate-unpack-by c = search needs
 
-unpack-requires : tie.Need-unpack-requires
-unpack-requires c κs = search needs
+unpack-by-requires : tie.Need-unpack-by-requires
+unpack-by-requires c κs = search needs
 
 returns-3 : tie.Need-returns-3
 returns-3 c =
@@ -34,18 +34,18 @@ returns-3 c =
     (d .before .if1 .left)
     (sym (d .all-digits .ensures) ∙ not-false _ (b .before .if2 .left))
     (b .bits-of .result)
-    (c .unpack .result)
+    (c .unpack-by .result)
     (b .bits-of .ensures)
-    (c .unpack .ensures)
+    (c .unpack-by .ensures)
 
-pub read-line-spec : {M : Type 1} → statement M
-read-line-spec =
+pub read-line-by-spec : {M : Type 1} → statement M
+read-line-by-spec =
     tie.close
     (tie.spec
     returns
     all-digits-requires
     returns-2
     bits-of-requires
-    slice-aggregate-unpack
-    unpack-requires
+    slice-aggregate-unpack-by
+    unpack-by-requires
     returns-3)

@@ -1,13 +1,13 @@
--- `bch::tps_bch_decode` meets its contract: the tests give the number, and the search names the places of the
--- codeword within distance two. Assumes nothing.
+-- `bch::tps_bch_decode_by` meets its contract: the tests give the number, and the search names the places of the
+-- codeword within distance two, by whichever decoder. Assumes nothing.
 use mathlib.Core.Path.{sym, _∙_}
 use lib.Seq.{length-take-le}
 use borrow.Author.Tests.{not-true, not-false}
 use borrow.Author.Needs.{needs}
 use Rattle.ground.proofs.Bits.{bits-of}
 use Rattle.bch.proofs.Answer.{no-length, no-bit, no-room, accepted, not-no-word, decode-refused, decode-none, decode-found}
-use Rattle.bch.proofs.tps_bch_decode.Statement.{statement}
-use Rattle.bch.proofs.tps_bch_decode.Tie as tie
+use Rattle.bch.proofs.tps_bch_decode_by.Statement.{statement}
+use Rattle.bch.proofs.tps_bch_decode_by.Tie as tie
 
 returns : tie.Need-returns
 returns c =
@@ -30,8 +30,8 @@ returns-3 c =
     decode-refused (z .args .code .now) (z .args .out .now) 2
     (no-room 67 53 (z .args .code .now) (z .args .out .now) (c .before .before .before .if1 .left) b (c .if3 .taken))
 
-changes-requires : tie.Need-changes-requires
-changes-requires c κs =
+changes-by-requires : tie.Need-changes-by-requires
+changes-by-requires c κs =
     let z = c .before .before .before .before .before .before in
     let b = sym (c .before .before .all-bits .ensures) ∙ not-false (c .before .before .all-bits .result) (c .before .if2 .left) in
     (bits-of (z .args .code .now) b, c .before .before .before .if1 .left)
@@ -43,9 +43,9 @@ returns-4 : tie.Need-returns-4
 returns-4 c =
     let z = c .before .before .before .before .before .before .before .before .before in
     let b = sym (c .before .before .before .before .before .all-bits .ensures) ∙ not-false (c .before .before .before .before .before .all-bits .result) (c .before .before .before .before .if2 .left) in
-    decode-none (z .args .code .now) (z .args .out .now) (c .before .before .changes .result)
+    decode-none (z .args .code .now) (z .args .out .now) (c .before .before .changes-by .result)
     (accepted 67 53 (z .args .code .now) (z .args .out .now) (c .before .before .before .before .before .before .if1 .left) b (c .before .before .before .if3 .left))
-    (c .before .before .changes .ensures) (c .enum-told .given .1)
+    (c .before .before .changes-by .ensures) (c .enum-told .given .1)
 
 slice-relend-prefix-put-information : tie.Need-slice-relend-prefix-put-information
 slice-relend-prefix-put-information c = search needs
@@ -74,19 +74,19 @@ returns-5 c =
     let w = z .args .code .now in
     let o = z .args .out .now in
     let l = c .before .before .before .before .before .before .before .before .before .before .if1 .left in
-    let f = c .before .before .before .before .before .before .changes in
+    let f = c .before .before .before .before .before .before .changes-by in
     decode-found w o (f .result) (c .mended-at .result) (c .before .before .before .put-information .last .1 .1 .0) (accepted 67 53 w o l b (c .before .before .before .before .before .before .before .if3 .left)) (bits-of w b) l
     (f .ensures) (not-no-word (f .result) (c .before .before .before .before .before .match .keys2)) (c .mended-at .ensures) (c .before .before .before .put-information .ensures)
 
-pub tps-bch-decode-spec : {M : Type 1} → statement M
-tps-bch-decode-spec =
+pub tps-bch-decode-by-spec : {M : Type 1} → statement M
+tps-bch-decode-by-spec =
     tie.close
     (tie.spec
     returns
     all-bits-requires
     returns-2
     returns-3
-    changes-requires
+    changes-by-requires
     enum-told
     returns-4
     slice-relend-prefix-put-information
