@@ -14,6 +14,7 @@ mod harness;
 mod lent;
 mod lines;
 mod mended;
+mod packed;
 mod pilots;
 mod points;
 mod random;

@@ -1,5 +1,5 @@
-//! Which bits of a received codeword are wrong, by a plain second writing of the rule (EN 300 744, 4.6.2.11; document 02, E1): orion-sdr mends them and
-//! doesn't tell. A word is divided by the generator bit after bit, and its remainder looked up among those of all patterns of at most two places.
+//! The code by a plain second writing of the rule (EN 300 744, 4.6.2.11), and which bits of a received codeword are wrong (document 02, E1): orion-sdr
+//! mends them and doesn't tell. A word is divided by the generator bit after bit, and its remainder looked up among those of all patterns of at most two places.
 
 use std::sync::OnceLock;
 
@@ -38,6 +38,13 @@ fn remainder(bits: &[u8]) -> u16 {
         let brought_down = left << 1 | u16::from(*bit);
         if brought_down >> DEGREE == 1 { brought_down ^ GENERATOR } else { brought_down }
     })
+}
+
+/// The codeword of information: behind it the remainder of the information with 14 zeros behind it.
+pub fn codeword(information: &[u8]) -> Vec<u8> {
+    let left = remainder(&[information, &[0; DEGREE]].concat());
+    let parity = (0..DEGREE).rev().map(|power| (left >> power & 1) as u8);
+    information.iter().copied().chain(parity).collect()
 }
 
 /// No place, each one, and each two of a codeword.

@@ -3,6 +3,9 @@
 #[allow(dead_code)]
 mod fields;
 #[allow(dead_code)]
+mod mended;
+mod packed;
+#[allow(dead_code)]
 mod points;
 #[allow(dead_code)]
 mod random;

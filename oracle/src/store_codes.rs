@@ -2,6 +2,7 @@
 
 use crate::Lines;
 use crate::fields::{orion_fields, orion_word};
+use crate::packed;
 use crate::random::Random;
 use crate::refusals::{LENGTH, NO_WORD, RESERVED};
 use orion_sdr::waveform::dvb_t_tps::{TpsWord, tps_bch_decode, tps_bch_encode};
@@ -104,7 +105,7 @@ pub fn decode(lines: &mut Lines) {
 
 /// The bits of a word with these fields.
 fn packed(fields: [u8; 5]) -> [u8; CODEWORD + 1] {
-    orion_word(fields).expect("codes of the enums").pack()
+    packed::packed(orion_word(fields).expect("codes of the enums"))
 }
 
 /// Words of every constellation, rate and guard, with any frame number and cell id.

@@ -6,6 +6,7 @@ use crate::fields::{orion_fields, orion_word};
 use crate::harness::{Expected, Run, Subject};
 use crate::lent::{EMPTY, Lent, Room, UNTOUCHED, background, surroundings};
 use crate::mended::{Mended, mended};
+use crate::packed::packed;
 use crate::random::Random;
 use crate::refusals::{LENGTH, NO_WORD, NOT_A_BIT, OUTPUT_SHORT, RESERVED};
 use crate::sys::{SaltTpsWord, SaltUnpacked};
@@ -64,9 +65,10 @@ fn some_fields(random: &mut Random) -> [u8; 5] {
     [frame, random.below(3) as u8, random.below(5) as u8, random.below(4) as u8, cell]
 }
 
-/// The bits of a word as it is sent: packed most often; else random information, or packed with a reserved code.
+/// The bits of a word as it is sent: packed most often, as here or as orion-sdr does; else random information, or packed with a reserved code.
 pub fn some_sent(random: &mut Random) -> [u8; WORD] {
-    let mut bits = orion_word(some_fields(random)).expect("codes of the enums").pack();
+    let word = orion_word(some_fields(random)).expect("codes of the enums");
+    let mut bits = if random.below(2) == 0 { packed(word) } else { word.pack() };
     match random.below(4) {
         0 => bits[1..=INFORMATION].copy_from_slice(&information(random)),
         1 => bits[25..27].fill(1),
@@ -158,7 +160,7 @@ impl Subject for Pack {
             for (frame, cell) in (0..=u8::MAX).flat_map(|frame| (0..=u8::MAX).map(move |cell| (frame, cell))) {
                 let fields = [frame, points, rate, guard, cell];
                 compared += 1;
-                if !Self::same(fields, orion_word(fields).expect("codes of the enums").pack()) {
+                if !Self::same(fields, packed(orion_word(fields).expect("codes of the enums"))) {
                     differs(Packing { fields, room: Room::Exact });
                 }
             }
@@ -182,7 +184,7 @@ impl Subject for Pack {
         let Some(word) = orion_word(case.fields) else {
             return case.refused(RESERVED);
         };
-        out[..WORD].copy_from_slice(&word.pack());
+        out[..WORD].copy_from_slice(&packed(word));
         Expected::orion(Answer::counted(0, WORD).bytes("output", &out).surroundings(UNTOUCHED))
     }
 

@@ -35,6 +35,7 @@
 //! | [`ConstellationOrder`] has three cases | and BPSK and 256-QAM |
 //! | [`GridMap`] and [`GridExtract`] are those of the 2K plan with continual pilots alone; `process` is their own | any `CarrierGrid`; `process` is a trait's |
 //! | a 69th symbol is refused | collected |
+//! | `TpsWord::pack` writes 000 in s33 to s35, as the standard has it without hierarchy | the rate again |
 //! | [`tps_bch_decode_mended`], [`unpack_mended`] and [`word_mended`] tell which bits were mended, too | not told |
 //! | [`tps_bch_decode_slow`] and [`Reader::by`] read by trying each change, with the same answers | one decoder |
 //! | left out | `TS_SYNC_BYTE_INVERTED`, `is_dvb_t_constellation`, plans, guard lengths in samples, bandwidths, configurations |

@@ -204,7 +204,8 @@ pub struct TpsWord {
 }
 
 impl TpsWord {
-    /// The 68 bits s0 to s67 of the word: s0 is zero, then the codeword.
+    /// The 68 bits s0 to s67 of the word: s0 is zero, then the codeword. s33 to s35 are 000, where orion-sdr repeats the
+    /// rate.
     pub fn pack(self) -> [u8; 68] {
         let mut out = [0; 68];
         self.pack_into(&mut out).expect("the output is as long as needed, and no code is reserved");

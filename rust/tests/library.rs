@@ -252,6 +252,21 @@ fn words_come_back() {
 }
 
 #[test]
+fn the_second_rate_is_zero_and_ignored() {
+    let word = TpsWord { code_rate_hp: PunctureRate::R7_8, ..WORD };
+    let mut bits = word.pack();
+    assert_eq!((&bits[30..33], &bits[33..36]), (&[1, 0, 0][..], &[0, 0, 0][..]));
+    for second in 0..8u8 {
+        bits[33..36].copy_from_slice(&[second >> 2, second >> 1 & 1, second & 1]);
+        let sent = tps_bch_encode(&bits[1..54]).unwrap();
+        bits[1..].copy_from_slice(&sent);
+        (bits[5], bits[34]) = (1 - bits[5], 1 - bits[34]);
+        assert_eq!(TpsWord::unpack(&bits), Ok(word));
+        (bits[5], bits[34]) = (1 - bits[5], 1 - bits[34]);
+    }
+}
+
+#[test]
 fn a_frame_is_sent_and_received() {
     let (mut encoder, mut decoder) = (TpsEncoder::default(), TpsDecoder::default());
     for (n, bit) in WORD.pack().into_iter().enumerate() {
@@ -270,7 +285,8 @@ fn a_frame_is_sent_and_received() {
     assert_eq!(decoder.feed_symbol(&[ZERO; 17]), Err(Refusal::Full));
     assert_eq!(decoder.bits().len(), 68);
     let first = TpsEncoder::new().next_symbol(0);
-    assert_ne!(encoder.next_symbol(0), first);
+    let held = encoder.next_symbol(0);
+    assert_ne!(encoder.next_symbol(1), held);
     encoder.reset();
     decoder.reset();
     assert_eq!((encoder.next_symbol(1), decoder.bits().len()), (first, 0));

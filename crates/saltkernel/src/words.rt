@@ -87,7 +87,7 @@ pub(crate) fn unpacked_numbers_of(answer: Unpacked) -> SaltUnpacked
     }
 }
 
-// The 68 bits s0 to s67 of a word: s0 is zero, then the codeword. Answers 68.
+// The 68 bits s0 to s67 of a word: s0 is zero, then the codeword, whose s33 to s35 are 000. Answers 68.
 // Refusals: 3 OUTPUT SHORT, 5 RESERVED (constellation above 2, rate above 4 or guard above 3).
 #[no_mangle]
 pub extern "C" fn salt_tps_word_pack(word: SaltTpsWord, out: &mut [u8]) -> SaltCounted

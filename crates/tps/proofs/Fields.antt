@@ -77,7 +77,7 @@ Small k = (k .constellation < 4) × (k .rate < 8) × (k .guard < 4)
 
 -- of the codes k of the word w
 pub information-value : (w : TpsWord) (k : Codes) (sync v : ℕ) → k ≡ codesOf w → k .cell < 256 → (sync ≡ syncOf (k .frame)) × (sync < 65536)
-    → v ≡ ((((((sync * 64 + 31) * 4 + k .frame % 4) * 4 + k .constellation) * 512 + k .rate * 9) * 4 + k .guard) * 1024 + k .cell) * 64
+    → v ≡ ((((((sync * 64 + 31) * 4 + k .frame % 4) * 4 + k .constellation) * 64 + k .rate) * 8 * 4 + k .guard) * 1024 + k .cell) * 64
     → v ≡ valueOf 0 (informationOf w)
 information-value w k sync v e hc hs ev =
     let small : Small k = subst Small (sym e) (constellation-small (w .constellation), rate-small (w .«code_rate_hp»), guard-small (w .guard)) in

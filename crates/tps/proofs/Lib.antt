@@ -5,6 +5,7 @@ pub mod Packing
 pub mod Unpacking
 pub mod Determined
 pub mod RoundTrip
+pub mod SecondRate
 pub mod MendedBits
 pub mod Sums
 pub mod SignRows

@@ -40,9 +40,10 @@ fieldsOf k =
     ∷ record { width = 2; value = k .constellation }
     -- s27..s29: no hierarchy
     ∷ record { width = 3; value = 0 }
-    -- s30..s32 and s33..s35: the rate, twice
+    -- s30..s32: the rate
     ∷ record { width = 3; value = k .rate }
-    ∷ record { width = 3; value = k .rate }
+    -- s33..s35: no second rate without a hierarchy
+    ∷ record { width = 3; value = 0 }
     -- s36, s37: the guard interval
     ∷ record { width = 2; value = k .guard }
     -- s38, s39: the mode, 2K

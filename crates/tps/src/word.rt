@@ -90,8 +90,8 @@ impl TpsWord {
         let codes = inner::codes_of(self);
         let frame = (sync_word(codes.frame) * 64 + 31) * 4 + (codes.frame % 4) as u64;
         let points = frame * 4 + codes.constellation as u64;
-        let rates = points * 512 + codes.rate as u64 * 9;
-        let cell = (rates * 4 + codes.guard as u64) * 1024 + codes.cell as u64;
+        let rate = (points * 64 + codes.rate as u64) * 8;
+        let cell = (rate * 4 + codes.guard as u64) * 1024 + codes.cell as u64;
         cell * 64
     }
 
