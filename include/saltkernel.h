@@ -11,8 +11,8 @@
  *
  * Every function is defined for all values and all lengths. A call that can't be done is refused: its answer has the
  * refusal's number, every other part of the answer is 0, SALT_NO_PLACE or the state as it went in, and every slice is
- * unchanged. Number 0 is accepted. Of several refusals that apply the first is given, in the order in which each
- * function names them.
+ * unchanged; 10 and 11 alone change a state, the desk's. Number 0 is accepted. Of several refusals that apply the
+ * first is given, in the order in which each function names them.
  *
  * State is passed and returned by value, or lent to salt_tps_decoder_feed_in_place; no function keeps any, so calls
  * may be made from any thread. What a state's fields hold is no secret: a state that is copied is a second one, and a
@@ -46,7 +46,9 @@ enum {
     SALT_FULL = 6,         /* a symbol is fed when 68 stand */
     SALT_EMPTY = 7,        /* a step back when none stands */
     SALT_INCOMPLETE = 8,   /* a word is asked for with fewer than 68 */
-    SALT_BAD_LINE = 9      /* the report's input line isn't 17 digits from 0-9 and a-f */
+    SALT_BAD_LINE = 9,     /* the report's input line isn't 17 digits from 0-9 and a-f */
+    SALT_OUT_OF_STEP = 10, /* a word that the desk takes hasn't the number that is wanted */
+    SALT_MISMATCH = 11     /* a word that the desk takes differs from those gathered */
 };
 
 /* ---- Sizes */
@@ -601,6 +603,57 @@ size_t salt_session_phase(SaltSession session);
  */
 SaltUnpacked salt_session_word(SaltSession session);
 
+/* ---- The desk */
+
+/*
+ * It takes words that were read, in order, and names the super-frame: the words of four frames whose numbers are 0,
+ * 1, 2 and 3, with one high byte of the cell id in 0 and 2, one low byte in 1 and 3, and the same parameters
+ * throughout. A word that is refused by 10 or 11 drops what was gathered, and one with number 0 starts afresh, the
+ * refused one too: unlike all others these two refusals change the state. Behind a complete super-frame, and at the
+ * start, number 0 is wanted.
+ */
+
+/* What the words of a super-frame share, by EN 300 744's codes. */
+typedef struct SaltParameters {
+    uint8_t constellation;
+    uint8_t code_rate_hp;
+    uint8_t guard;
+} SaltParameters;
+
+/*
+ * What is gathered of a super-frame: the number of the word that is wanted next, and the high byte, the low byte and
+ * the parameters of the words before it. With 0 wanted none of these is read, and with 1 no low byte. Of a desk that
+ * is made by hand a number above 3 is read as 0, and parameters that no word has agree with none.
+ */
+typedef struct SaltDesk {
+    uint8_t wanted;
+    uint8_t high;
+    uint8_t low;
+    SaltParameters parameters;
+} SaltDesk;
+
+/*
+ * The answer to a word, and the desk after it. Where `complete` is 1 a super-frame is complete, with its cell id and
+ * its parameters by their codes; else these are 0.
+ */
+typedef struct SaltDeskTaken {
+    uint8_t number;
+    uint8_t complete; /* 1 where the word completes a super-frame, else 0 */
+    uint16_t cell_id;
+    SaltParameters parameters;
+    SaltDesk desk;
+} SaltDeskTaken;
+
+/* A desk with nothing gathered. */
+SaltDesk salt_desk_new(void);
+
+/*
+ * Takes the next word that was read: it is gathered, or completes a super-frame.
+ * Refusals: 5 RESERVED (constellation above 2, rate above 4 or guard above 3; the desk stays as it was), 10 OUT OF
+ * STEP (not the number wanted), 11 MISMATCH (the first word at which a byte of the cell id or a parameter differs).
+ */
+SaltDeskTaken salt_desk_take(SaltDesk desk, SaltTpsWord word);
+
 /* ---- The report on received words */
 
 /*
@@ -688,9 +741,9 @@ SaltCounted salt_reader_close_slow(SaltReader reader, uint8_t *out, size_t out_l
  */
 
 /* The number of the layout. */
-uint32_t salt_layout_0dafa308(void);
+uint32_t salt_layout_d28f8a5c(void);
 
-#define SALT_LAYOUT salt_layout_0dafa308
+#define SALT_LAYOUT salt_layout_d28f8a5c
 
 #ifdef __cplusplus
 }

@@ -1,6 +1,7 @@
 //! The port's speed against orion-sdr's, both built for release, measured in turn in one run.
 
 mod bench_codes;
+mod bench_desk;
 mod bench_pilots;
 mod bench_report;
 mod bench_session;
@@ -14,6 +15,10 @@ mod fields;
 mod points;
 #[allow(dead_code)]
 mod random;
+#[allow(dead_code)]
+mod refusals;
+#[allow(dead_code)]
+mod super_frames;
 #[allow(dead_code)]
 #[path = "../../rust/src/sys.rs"]
 mod sys;
@@ -43,6 +48,7 @@ fn main() {
     let (mut bytes, mut calls, mut symbols) = (byte_rows(), call_rows(), bench_pilots::rows());
     calls.extend(bench_codes::rows().into_iter().chain(bench_tps::rows()));
     symbols.push(bench_session::feed());
+    calls.push(bench_desk::take());
     let (mut slow, mut steps) = (bench_codes::slow_rows(), vec![bench_session::step_back()]);
     let mut reports = vec![bench_report::row()];
     for _ in 0..ROUNDS {
@@ -66,6 +72,7 @@ fn main() {
     println!("orion-sdr's ts_packetize and ts_depacketize allocate the Vec that they answer; ours write into a lent buffer.");
     println!("Mc/s: million calls a second, on points as a receiver sees them. orion-sdr's dvb_t_demap_symbol and dvb_t_soft_llr allocate");
     println!("the Vec that they answer, and one for each axis; ours write into a lent buffer and answer by value.");
+    println!("Desk::take is beside the rule over the last four words in Rust (oracle/src/super_frames.rs), since orion-sdr has no desk.");
     println!("orion-sdr's tps_bch_decode makes the tables of its field at each call.");
     println!("ks/s: thousand symbols a second, phase after phase; both sides' objects are made once and write into a lent buffer.");
     println!("Session::feed is beside orion-sdr's extract_symbol and feed_symbol together; Session::step_back beside our own feeds of all that stand");

@@ -7,6 +7,7 @@ mod answer;
 mod call;
 mod cells;
 mod codes;
+mod desk;
 mod dispersal;
 mod fields;
 mod gray;
@@ -30,6 +31,7 @@ mod session_scripts;
 mod session_sides;
 mod shrink;
 mod signals;
+mod super_frames;
 mod symbols;
 #[allow(dead_code)]
 #[path = "../../rust/src/sys.rs"]
@@ -53,6 +55,7 @@ fn main() {
     sender::compare(&mut run);
     receiver::compare(&mut run);
     session::compare(&mut run);
+    desk::compare(&mut run);
     reports::compare(&mut run);
     reader::compare(&mut run);
     run.finish();

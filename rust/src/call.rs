@@ -268,6 +268,16 @@ pub fn session_word(session: SaltSession) -> SaltUnpacked {
     unsafe { salt_session_word(session) }
 }
 
+// ---- The desk
+
+pub fn desk_new() -> SaltDesk {
+    unsafe { salt_desk_new() }
+}
+
+pub fn desk_take(desk: SaltDesk, word: SaltTpsWord) -> SaltDeskTaken {
+    unsafe { salt_desk_take(desk, word) }
+}
+
 // ---- The report on received words
 
 pub fn read_line(line: &[u8]) -> SaltUnpacked {

@@ -1,8 +1,9 @@
 //! The DVB-T 2K waveform layer of a bench analyser: transport packets, energy dispersal, Gray mapping, the pilot grid, TPS
-//! (ETSI EN 300 744, 4.3 to 4.6), a receive session that steps back, and a report on received words.
+//! (ETSI EN 300 744, 4.3 to 4.6), a receive session that steps back, a report on received words, and a desk
+//! that names super-frames by their whole cell id.
 //!
 //! The work is done by a library that is proved, for all inputs, to do what document 01 says; this crate is a safe cover over its C interface
-//! and has no dependencies. Functions take slices and give a `Result` whose error is a [`Refusal`]; a refused call changes nothing.
+//! and has no dependencies. Functions take slices and give a `Result` whose error is a [`Refusal`]; a refused call changes nothing, but for the desk's own two.
 //!
 //! ```
 //! use saltkernel::waveform::dvb_t_ts::{ts_depacketize, ts_energy_disperse, ts_packetize};
@@ -80,6 +81,7 @@ mod sys;
 mod carrier;
 mod complex;
 mod constellation;
+pub mod desk;
 mod dispersal;
 mod frames;
 mod packets;

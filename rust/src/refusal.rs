@@ -1,11 +1,12 @@
-//! The refusals of document 01.
+//! The refusals of documents 01 and 02.
 
 use crate::sys::*;
 use std::fmt;
 
-/// Why a call was refused, by document 01's name and number.
+/// Why a call was refused, by document 01's or 02's name and number.
 ///
-/// A refused call changes nothing: neither a lent slice nor the state it was made on.
+/// A refused call changes nothing: neither a lent slice nor the state it was made on. [`OutOfStep`](Self::OutOfStep) and
+/// [`Mismatch`](Self::Mismatch) alone change the desk that gives them.
 ///
 /// ```
 /// use saltkernel::waveform::dvb_t::dvb_t_map_symbol;
@@ -18,6 +19,7 @@ use std::fmt;
 /// ```
 #[derive(Clone, Copy, Debug, PartialEq, Eq, Hash)]
 #[repr(u8)]
+#[non_exhaustive]
 pub enum Refusal {
     /// An input slice, group size, byte count or carrier index is outside what the call takes.
     Length = SALT_LENGTH,
@@ -37,11 +39,15 @@ pub enum Refusal {
     Incomplete = SALT_INCOMPLETE,
     /// A line of the report's input isn't 17 digits from 0-9 and a-f.
     BadLine = SALT_BAD_LINE,
+    /// A word that the desk takes hasn't the number that is wanted.
+    OutOfStep = SALT_OUT_OF_STEP,
+    /// A word that the desk takes differs from those gathered.
+    Mismatch = SALT_MISMATCH,
 }
 
 impl Refusal {
-    /// All nine, by number.
-    pub const ALL: [Refusal; 9] = [
+    /// All, by number.
+    pub const ALL: &'static [Refusal] = &[
         Refusal::Length,
         Refusal::NotABit,
         Refusal::OutputShort,
@@ -51,14 +57,16 @@ impl Refusal {
         Refusal::Empty,
         Refusal::Incomplete,
         Refusal::BadLine,
+        Refusal::OutOfStep,
+        Refusal::Mismatch,
     ];
 
-    /// Document 01's number, 1 to 9.
+    /// The documents' number, from 1 on.
     pub const fn number(self) -> u8 {
         self as u8
     }
 
-    /// Document 01's name.
+    /// The documents' name.
     pub const fn name(self) -> &'static str {
         match self {
             Refusal::Length => "LENGTH",
@@ -70,12 +78,14 @@ impl Refusal {
             Refusal::Empty => "EMPTY",
             Refusal::Incomplete => "INCOMPLETE",
             Refusal::BadLine => "BAD LINE",
+            Refusal::OutOfStep => "OUT OF STEP",
+            Refusal::Mismatch => "MISMATCH",
         }
     }
 
     /// The refusal of a number; `None` for a number that none has.
     pub const fn from_number(number: u8) -> Option<Refusal> {
-        if number >= 1 && number <= 9 {
+        if number >= 1 && number as usize <= Self::ALL.len() {
             Some(Self::ALL[number as usize - 1])
         } else {
             None
@@ -95,6 +105,6 @@ impl std::error::Error for Refusal {}
 pub(crate) fn accepted<T>(number: u8, value: T) -> Result<T, Refusal> {
     match number {
         0 => Ok(value),
-        _ => Err(Refusal::from_number(number).expect("the library gives document 01's numbers alone")),
+        _ => Err(Refusal::from_number(number).expect("the library gives the documents' numbers alone")),
     }
 }

@@ -12,6 +12,8 @@ pub const SALT_FULL: u8 = 6;
 pub const SALT_EMPTY: u8 = 7;
 pub const SALT_INCOMPLETE: u8 = 8;
 pub const SALT_BAD_LINE: u8 = 9;
+pub const SALT_OUT_OF_STEP: u8 = 10;
+pub const SALT_MISMATCH: u8 = 11;
 
 // ---- Sizes
 
@@ -380,6 +382,40 @@ extern "C" {
     pub fn salt_session_word(session: SaltSession) -> SaltUnpacked;
 }
 
+// ---- The desk
+
+#[repr(C)]
+#[derive(Clone, Copy, Debug, PartialEq, Eq)]
+pub struct SaltParameters {
+    pub constellation: u8,
+    pub code_rate_hp: u8,
+    pub guard: u8,
+}
+
+#[repr(C)]
+#[derive(Clone, Copy, Debug, PartialEq, Eq)]
+pub struct SaltDesk {
+    pub wanted: u8,
+    pub high: u8,
+    pub low: u8,
+    pub parameters: SaltParameters,
+}
+
+#[repr(C)]
+#[derive(Clone, Copy, Debug, PartialEq, Eq)]
+pub struct SaltDeskTaken {
+    pub number: u8,
+    pub complete: u8,
+    pub cell_id: u16,
+    pub parameters: SaltParameters,
+    pub desk: SaltDesk,
+}
+
+extern "C" {
+    pub fn salt_desk_new() -> SaltDesk;
+    pub fn salt_desk_take(desk: SaltDesk, word: SaltTpsWord) -> SaltDeskTaken;
+}
+
 // ---- The report on received words
 
 #[repr(C)]
@@ -412,11 +448,11 @@ extern "C" {
 // ---- The layout
 
 extern "C" {
-    pub fn salt_layout_0dafa308() -> u32;
+    pub fn salt_layout_d28f8a5c() -> u32;
 }
 
 /// Refers to the layout, so that nothing links with an archive of another one; it is called as a program starts, since
 /// a linker drops nothing of what is.
 #[used]
 #[link_section = ".init_array"]
-static LAYOUT: unsafe extern "C" fn() -> u32 = salt_layout_0dafa308;
+static LAYOUT: unsafe extern "C" fn() -> u32 = salt_layout_d28f8a5c;

@@ -163,9 +163,9 @@ pub enum GuardInterval {
     G1_4,
 }
 
-const CONSTELLATIONS: [ConstellationOrder; 3] = [ConstellationOrder::Qpsk, ConstellationOrder::Qam16, ConstellationOrder::Qam64];
-const RATES: [PunctureRate; 5] = [PunctureRate::R1_2, PunctureRate::R2_3, PunctureRate::R3_4, PunctureRate::R5_6, PunctureRate::R7_8];
-const GUARDS: [GuardInterval; 4] = [GuardInterval::G1_32, GuardInterval::G1_16, GuardInterval::G1_8, GuardInterval::G1_4];
+pub(crate) const CONSTELLATIONS: [ConstellationOrder; 3] = [ConstellationOrder::Qpsk, ConstellationOrder::Qam16, ConstellationOrder::Qam64];
+pub(crate) const RATES: [PunctureRate; 5] = [PunctureRate::R1_2, PunctureRate::R2_3, PunctureRate::R3_4, PunctureRate::R5_6, PunctureRate::R7_8];
+pub(crate) const GUARDS: [GuardInterval; 4] = [GuardInterval::G1_32, GuardInterval::G1_16, GuardInterval::G1_8, GuardInterval::G1_4];
 
 /// The parameters that a frame signals (EN 300 744, 4.6.2).
 ///

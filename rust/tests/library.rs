@@ -1,5 +1,6 @@
 //! The crate as a caller has it: answers, refusals, and states that a refused call leaves as they were.
 
+use saltkernel::desk::{Desk, SuperFrame};
 use saltkernel::fec::PunctureRate;
 use saltkernel::modulate::ConstellationOrder;
 use saltkernel::multicarrier::*;
@@ -31,12 +32,13 @@ const WORD: TpsWord =
 
 #[test]
 fn refusals_have_their_numbers_and_names() {
-    let names = ["LENGTH", "NOT A BIT", "OUTPUT SHORT", "NO WORD", "RESERVED", "FULL", "EMPTY", "INCOMPLETE", "BAD LINE"];
-    for (refusal, (number, name)) in Refusal::ALL.into_iter().zip((1..).zip(names)) {
+    let names = ["LENGTH", "NOT A BIT", "OUTPUT SHORT", "NO WORD", "RESERVED", "FULL", "EMPTY", "INCOMPLETE", "BAD LINE", "OUT OF STEP", "MISMATCH"];
+    assert_eq!(Refusal::ALL.len(), names.len());
+    for (refusal, (number, name)) in Refusal::ALL.iter().copied().zip((1..).zip(names)) {
         assert_eq!((refusal.number(), refusal.to_string().as_str()), (number, name));
         assert_eq!(Refusal::from_number(number), Some(refusal));
     }
-    assert_eq!((Refusal::from_number(0), Refusal::from_number(10)), (None, None));
+    assert_eq!((Refusal::from_number(0), Refusal::from_number(12)), (None, None));
 }
 
 #[test]
@@ -334,6 +336,33 @@ fn line_of(word: TpsWord) -> Vec<u8> {
 }
 
 #[test]
+fn a_desk_names_super_frames() {
+    let word = |frame_number, cell_id| TpsWord { frame_number, cell_id, ..WORD };
+    let mut desk = Desk::new();
+    for id in [0x12AB, 0xFFFF, 0, 0x00FF] {
+        let [high, low] = u16::to_be_bytes(id);
+        for (number, byte) in [(0, high), (1, low), (2, high)] {
+            assert_eq!(desk.take(word(number, byte)), Ok(None));
+        }
+        let frame = SuperFrame { cell_id: id, constellation: WORD.constellation, code_rate_hp: WORD.code_rate_hp, guard: WORD.guard };
+        assert_eq!(desk.take(word(3, low)), Ok(Some(frame)));
+        assert_eq!(desk, Desk::new());
+    }
+    // A number above 3 is in step nowhere, and every other parameter that differs is a mismatch.
+    assert_eq!(desk.take(word(4, 0)), Err(Refusal::OutOfStep));
+    let others = [
+        TpsWord { constellation: ConstellationOrder::Qpsk, ..word(1, 0) },
+        TpsWord { code_rate_hp: PunctureRate::R1_2, ..word(1, 0) },
+        TpsWord { guard: GuardInterval::G1_4, ..word(1, 0) },
+    ];
+    for other in others {
+        assert_eq!(desk.take(word(0, 9)), Ok(None));
+        assert_eq!(desk.take(other), Err(Refusal::Mismatch));
+        assert_eq!(desk, Desk::new());
+    }
+}
+
+#[test]
 fn lines_are_read_and_written() {
     let mut out = [b'.'; LINE_ROOM];
     let line = line_of(WORD);
@@ -347,7 +376,7 @@ fn lines_are_read_and_written() {
     let text = b"18446744073709551615 3 16 7/8 1/16 c3 0\n";
     assert_eq!(put_line(u64::MAX, clean, &mut out), Ok(text.len()));
     assert_eq!(&out[..text.len()], text);
-    for refusal in Refusal::ALL {
+    for &refusal in Refusal::ALL {
         let count = put_line(1, Err(refusal), &mut out).unwrap();
         assert_eq!(out[..count], *format!("1 refused {}\n", refusal.number()).as_bytes());
     }

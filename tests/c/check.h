@@ -46,6 +46,7 @@ void test_codes(void);
 void test_words(void);
 void test_frames(void);
 void test_session(void);
+void test_desk(void);
 void test_reports(void);
 void test_lengths(void);
 

@@ -21,7 +21,8 @@ static const struct {
     {"packets", test_packets}, {"whitener", test_whitener}, {"constellation", test_constellation},
     {"pilots", test_pilots},   {"symbols", test_symbols},   {"codes", test_codes},
     {"words", test_words},     {"frames", test_frames},     {"session", test_session},
-    {"reports", test_reports}, {"lengths", test_lengths}, {"layout", test_layout},
+    {"desk", test_desk},       {"reports", test_reports},   {"lengths", test_lengths},
+    {"layout", test_layout},
 };
 
 int main(void) {

@@ -21,7 +21,7 @@ use Rattle.report.proofs.Texts.{put-written}
 abbrev pub textAnswer : ℕ → List ℕ → List ℕ → Counted
 textAnswer room text out = counted (fillNo room out) (length text)
 
-room-short : (room : ℕ) (out : List ℕ) → length out < room → fillNo room out ≡ OUTPUT-SHORT
+pub room-short : (room : ℕ) (out : List ℕ) → length out < room → fillNo room out ≡ OUTPUT-SHORT
 room-short room out h = simp (lt-ltb (length out) room h)
 
 pub room-there : (room : ℕ) (out : List ℕ) → room ≤ length out → fillNo room out ≡ 0

@@ -1,8 +1,8 @@
--- The report's lines for answers, and their counts, behind lines that stand already: for two lists of answers in turn,
--- and for a whole input. Assumes nothing.
+-- The report's lines for answers, and their counts, behind lines that stand already, where no count starts again: for a
+-- whole input. Assumes nothing.
 use mathlib.Core.Path.{_≡_, refl, sym, ap, ap₂, _∙_}
 use mathlib.Core.Bool.{Bool, true, false, cond}
-use mathlib.Core.List.{List, [], _∷_, _++_, append-assoc}
+use mathlib.Core.List.{List, [], _∷_, _++_, append-assoc, append-nil}
 use Prim.Native.Nat.{ℕ, suc, _+_, _^_, _≤_, _<_}
 use native.Mathlib.Nat.{mod-eq-of-lt, add-zero, zero-add}
 use native.Mathlib.Omega.{arith}
@@ -14,28 +14,10 @@ use Rattle.report.specs.Reading.{readAnswer, refusals}
 use Rattle.report.specs.Lines.{before, lines, answers}
 use Rattle.report.specs.Text.{lineText, heading, closing}
 use Rattle.report.specs.Report.{numbered, allRefusals, report}
-use Rattle.report.specs.Stream.{plus, linesAfter, refusedAfter, linesText, restText}
-
--- ---- two lists in turn
-
-pub lines-after-append : (n : ℕ) (a b : List Unpacked) → linesAfter n (a ++ b) ≡ linesAfter (linesAfter n a) b
-lines-after-append n [] b = refl
-lines-after-append n (x ∷ a) b = lines-after-append (plus n 1) a b
-
-pub refused-after-append : (m : ℕ) (a b : List Unpacked) → refusedAfter m (a ++ b) ≡ refusedAfter (refusedAfter m a) b
-refused-after-append m [] b = refl
-refused-after-append m (x ∷ a) b = refused-after-append (plus m (refusals x)) a b
-
-pub lines-text-append : (n : ℕ) (a b : List Unpacked) → linesText n (a ++ b) ≡ linesText n a ++ linesText (linesAfter n a) b
-lines-text-append n [] b = refl
-lines-text-append n (x ∷ a) b =
-    ap (λ (t : List ℕ). lineText (plus n 1) x ++ t) (lines-text-append (plus n 1) a b)
-    ∙ sym (append-assoc (lineText (plus n 1) x) (linesText (plus n 1) a) (linesText (linesAfter (plus n 1) a) b))
-
-pub rest-text-append : (n m : ℕ) (a b : List Unpacked) → linesText n a ++ restText (linesAfter n a) (refusedAfter m a) b ≡ restText n m (a ++ b)
-rest-text-append n m a b =
-    sym (append-assoc (linesText n a) (linesText (linesAfter n a) b) (closing (linesAfter (linesAfter n a) b) (refusedAfter (refusedAfter m a) b)))
-    ∙ rw (lines-text-append n a b, lines-after-append n a b, refused-after-append m a b) refl
+use Rattle.report.specs.Telling.{restText}
+use Rattle.report.specs.Stream.{plus, teller}
+use Rattle.report.proofs.Telling.{rest-append}
+use Rattle.report.proofs.Parts.{counts}
 
 -- ---- where no count starts again
 
@@ -44,7 +26,7 @@ one-refusal (Word w m) = omega arith
 one-refusal (Refused k) = omega arith
 
 rest-numbered : (n m : ℕ) (r : List Unpacked) → n + length r < 2 ^ 64 → m + length r < 2 ^ 64
-    → restText n m r ≡ numbered (suc n) r ++ closing (n + length r) (m + allRefusals r)
+    → restText teller (counts n m) r ≡ numbered (suc n) r ++ closing (n + length r) (m + allRefusals r)
 rest-numbered n m [] h k = ap₂ closing (sym (add-zero n)) (sym (add-zero m))
 rest-numbered n m (a ∷ r) h k =
     let i = one-refusal a in
@@ -52,8 +34,9 @@ rest-numbered n m (a ∷ r) h k =
     let q : plus m (refusals a) ≡ m + refusals a = mod-eq-of-lt (omega arith) in
     let e : suc n + length r ≡ n + suc (length r) = omega arith in
     let f : m + refusals a + allRefusals r ≡ m + (refusals a + allRefusals r) = omega arith in
-    append-assoc (lineText (plus n 1) a) (linesText (plus n 1) r) (closing (linesAfter (plus n 1) r) (refusedAfter (plus m (refusals a)) r))
-    ∙ ap₂ (λ (x y : ℕ). lineText x a ++ restText x y r) p q
+    sym (rest-append teller (counts n m) (a ∷ []) r)
+    ∙ ap (λ (t : List ℕ). t ++ restText teller (counts (plus n 1) (plus m (refusals a))) r) (append-nil (lineText (plus n 1) a))
+    ∙ ap₂ (λ (x y : ℕ). lineText x a ++ restText teller (counts x y) r) p q
     ∙ ap (λ (t : List ℕ). lineText (suc n) a ++ t) (rest-numbered (suc n) (m + refusals a) r (omega arith) (omega arith))
     ∙ ap₂ (λ (x y : ℕ). lineText (suc n) a ++ (numbered (suc (suc n)) r ++ closing x y)) e f
     ∙ sym (append-assoc (lineText (suc n) a) (numbered (suc (suc n)) r) (closing (n + suc (length r)) (m + (refusals a + allRefusals r))))
@@ -70,7 +53,7 @@ lines-length [] = omega arith
 lines-length (c ∷ s) = omega (arith, one-line-more c (lines s) (eqb c 10), lines-length s)
 
 -- the report's lines and its closing line
-pub rest-is-report : (s : List ℕ) → length s < 2 ^ 64 → heading ++ restText 0 0 (answers s) ≡ report s
+pub rest-is-report : (s : List ℕ) → length s < 2 ^ 64 → heading ++ restText teller (counts 0 0) (answers s) ≡ report s
 unfolding report
 rest-is-report s h =
     let r = answers s in

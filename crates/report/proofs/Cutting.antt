@@ -15,12 +15,14 @@ use Rattle.report.specs.declared.Fed.{Fed}
 use Rattle.report.specs.Text.{heading}
 use Rattle.report.specs.OpenLine.{answersIn, lineAfter, answersOver, joined}
 use Rattle.report.specs.Report.{report}
-use Rattle.report.specs.Stream.{fresh, lineOf, restText, feedText, feedReader, closeText}
+use Rattle.report.specs.Telling.{restText}
+use Rattle.report.specs.Stream.{fresh, lineOf, countsOf, teller, feedText, feedReader, closeText}
 use Rattle.report.specs.Calls.{partRoom, feedNo, feedAnswer, feedLeaves, closeRoom}
 use Rattle.report.specs.Cutting.{writtenBy, Writes, Call, taken, Run, none, next, Prints}
 use Rattle.report.proofs.Calls.{textAnswer, room-there}
 use Rattle.report.proofs.Lines.{parts-answers}
-use Rattle.report.proofs.Counts.{rest-text-append, rest-is-report}
+use Rattle.report.proofs.Telling.{rest-append}
+use Rattle.report.proofs.Counts.{rest-is-report}
 
 -- ---- what a call wrote, by its number
 
@@ -40,7 +42,7 @@ writes-text room text {t} w =
 
 -- what is written for answers to the lines of parts, and at the end, where a reader s takes them
 abbrev restOf : Reader → List (List ℕ) → List ℕ
-restOf s parts = restText (s .lines) (s .refused) (answersOver (lineOf s) parts)
+restOf s parts = restText teller (countsOf s) (answersOver (lineOf s) parts)
 
 -- a feed, accepted or refused, in front of what is written behind it
 feed-rest : (no : ℕ) (s : Reader) (part out : List ℕ) (parts : List (List ℕ))
@@ -48,7 +50,7 @@ feed-rest : (no : ℕ) (s : Reader) (part out : List ℕ) (parts : List (List �
     ≡ restOf s (kept no (part ∷ parts) parts)
 feed-rest zero s part out parts =
     ap (λ (t : List ℕ). t ++ restOf (feedReader s part) parts) (wrote-all (feedText s part) out)
-    ∙ rest-text-append (s .lines) (s .refused) (answersIn (lineOf s) part) (answersOver (lineAfter (lineOf s) part) parts)
+    ∙ rest-append teller (countsOf s) (answersIn (lineOf s) part) (answersOver (lineAfter (lineOf s) part) parts)
 feed-rest (suc k) s part out parts = refl
 
 -- what the calls write, and at the end, is the report's rest for the answers to the lines of the parts that are taken
@@ -69,7 +71,7 @@ pub any-cutting : {calls : List Call} {printed : List ℕ} → length (joined (t
 any-cutting {calls} w p =
     p .all
     ∙ ap₂ (λ (x y : List ℕ). x ++ (p .middle ++ y)) (writes-text (length heading) heading (p .begins)) (writes-text closeRoom (closeText (p .reader)) (p .ends))
-    ∙ ap (λ (x : List ℕ). heading ++ x) (run-text (p .runs) ∙ ap (restText 0 0) (parts-answers (taken calls)))
+    ∙ ap (λ (x : List ℕ). heading ++ x) (run-text (p .runs) ∙ ap (restText teller (countsOf fresh)) (parts-answers (taken calls)))
     ∙ rest-is-report (joined (taken calls)) w
 
 -- by whichever decoders two runs take the same parts, they print the same

@@ -1,4 +1,5 @@
 pub mod Texts
+pub mod Telling
 pub mod Decimal
 pub mod Digits
 pub mod LineAnswers

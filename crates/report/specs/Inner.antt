@@ -15,6 +15,7 @@ use Rattle.report.specs.Characters.{newline, space}
 use Rattle.report.specs.Reading.{refusals}
 use Rattle.report.specs.OpenLine.{openAnswer}
 use Rattle.report.specs.Text.{cellText, mendedText, pointsText, rateText, guardText, lineText}
+use Rattle.report.specs.Telling.{Teller}
 use Rattle.report.specs.Stream.{plus, feedReader, feedText}
 use Rattle.report.specs.Calls.{partRoom, lineRoom}
 
@@ -38,6 +39,13 @@ pub record Ends (l : OpenLine) (n m : ℕ) (out : List ℕ) (at : ℕ) (r : Ende
   pub refused : r .refused ≡ plus m (refusals (openAnswer l))
   pub written : Put out at (lineText (plus n 1) (openAnswer l)) out′ (r .at)
   pub room : r .at ≤ at + lineRoom
+
+-- the end of a line in a report that a teller tells: what is kept, k and then k′, and the line's text
+pub record EndsBy {Kept : Type 0} (t : Teller Kept) (l : OpenLine) (k : Kept) (out : List ℕ) (at : ℕ) (k′ : Kept)
+    (out′ : List ℕ) (at′ : ℕ) : Type 0 where
+  pub kept : k′ ≡ t .moved k (openAnswer l)
+  pub written : Put out at (t .text k (openAnswer l)) out′ at′
+  pub room : at′ ≤ at + lineRoom
 
 -- a part of the input
 pub record PutsPart (s : Reader) (part out : List ℕ) (r : PartEnd) (out′ : List ℕ) : Type 0 where

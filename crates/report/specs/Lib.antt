@@ -3,6 +3,7 @@ pub mod Reading
 pub mod Lines
 pub mod OpenLine
 pub mod Text
+pub mod Telling
 pub mod Report
 pub mod Stream
 pub mod Calls

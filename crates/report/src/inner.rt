@@ -1,6 +1,12 @@
-// For the crates above: the open line of an input that comes in parts, its end in a part, and its answer.
+// For the crates above: the open line of an input that comes in parts, its end in a part, and its answer; and the texts
+// that reports share.
 ghost use mathlib.Core.Path.{_≡_};
 ghost use Rattle.report.specs.OpenLine.{openAnswer, takeAnswer, takeLeaves};
+pub use super::text::hexadecimal_digit;
+pub use super::text::put;
+pub use super::text::put_columns;
+pub use super::text::put_decimal;
+pub use super::text::put_refused;
 use tps::Decoder;
 use tps::Unpacked;
 

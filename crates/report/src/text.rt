@@ -20,7 +20,7 @@ use tps::Unpacked;
 struct Column([u8; 5], usize);
 
 // Writes characters.
-pub(crate) fn put(out: &mut [u8], at: usize, characters: &[u8]) -> usize
+pub fn put(out: &mut [u8], at: usize, characters: &[u8]) -> usize
     requires { ⌜ at + length (now characters) ≤ length (now out) ⌝ }
     ensures { λ r. ⌜ Put (now (out .entry)) at (now (characters .entry)) (now (out .exit)) r ⌝ }
 {
@@ -33,7 +33,7 @@ pub(crate) fn put(out: &mut [u8], at: usize, characters: &[u8]) -> usize
 }
 
 // Writes a number in decimal.
-fn put_decimal(out: &mut [u8], at: usize, number: u64) -> usize
+pub fn put_decimal(out: &mut [u8], at: usize, number: u64) -> usize
     requires { ⌜ at + 20 ≤ length (now out) ⌝ }
     ensures text { λ r. ⌜ Put (now (out .entry)) at (decimal number) (now (out .exit)) r ⌝ }
     ensures room { λ r. ⌜ r ≤ at + 20 ⌝ }
@@ -95,7 +95,7 @@ fn put_column(out: &mut [u8], at: usize, column: Column) -> usize
 }
 
 // Writes the columns of a constellation, a rate and a guard interval, a space before each.
-fn put_columns(
+pub fn put_columns(
     out: &mut [u8],
     at: usize,
     constellation: ConstellationOrder,
@@ -112,7 +112,7 @@ fn put_columns(
 }
 
 // A hexadecimal digit in lower case.
-fn hexadecimal_digit(digit: u8) -> u8
+pub fn hexadecimal_digit(digit: u8) -> u8
     requires { ⌜ digit < 16 ⌝ }
     ensures { λ r. ⌜ r ≡ hexadecimal digit ⌝ }
 {
@@ -162,7 +162,7 @@ fn put_word(out: &mut [u8], at: usize, number: u64, word: TpsWord, mended: Mende
 }
 
 // Writes the line of a refusal.
-fn put_refused(out: &mut [u8], at: usize, number: u64, refusal: u8) -> usize
+pub fn put_refused(out: &mut [u8], at: usize, number: u64, refusal: u8) -> usize
     requires { ⌜ at + lineRoom ≤ length (now out) ⌝ }
     ensures text { λ r. ⌜ Put (now (out .entry)) at (lineText number (Refused refusal)) (now (out .exit)) r ⌝ }
     ensures room { λ r. ⌜ r ≤ at + lineRoom ⌝ }

@@ -6,3 +6,4 @@ pub mod Words
 pub mod Frames
 pub mod Sessions
 pub mod Reports
+pub mod Desks

@@ -10,8 +10,8 @@
 //
 // Every function is defined for all values and all lengths. A call that can't be done is refused: its answer has the
 // refusal's number, every other part of the answer is 0, SALT_NO_PLACE or the state as it went in, and every slice is
-// unchanged. Number 0 is accepted. Of several refusals that apply the first is given, in the order in which each
-// function names them.
+// unchanged; 10 and 11 alone change a state, the desk's. Number 0 is accepted. Of several refusals that apply the
+// first is given, in the order in which each function names them.
 //
 // State is passed and returned by value, or lent to salt_tps_decoder_feed_in_place; no function keeps any, so calls
 // may be made from any thread. What a state's fields hold is no secret: a state that is copied is a second one, and a
@@ -27,6 +27,7 @@ use ground::Counted;
 mod cells;
 mod codes;
 mod constellation;
+mod desks;
 mod frames;
 mod layout;
 mod packets;

@@ -1,0 +1,5 @@
+pub mod Taking
+pub mod SameParameters
+pub mod HandedIn
+pub mod Refusals
+pub mod Determined
