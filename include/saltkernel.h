@@ -111,11 +111,13 @@ typedef struct SaltPacket {
 } SaltPacket;
 
 /*
- * Puts a payload into packets: each is 0x47 and 187 bytes of the payload, the last one filled with zeros. An empty
- * payload gives one packet. Answers the bytes written, 188 max(1, ceil(payload_length / 187)).
+ * Puts a payload into packets and whitens them: each is 0x47 and 187 bytes of the payload, the last one filled with
+ * zeros, and then what salt_ts_energy_disperse makes of it, so that nothing is sent clear. An empty payload gives one
+ * packet. Answers the bytes written, 188 max(1, ceil(payload_length / 187)).
  * Refusals: 3 OUTPUT SHORT.
  */
-SaltCounted salt_ts_packetize(const uint8_t *payload, size_t payload_length, uint8_t *out, size_t out_length);
+SaltCounted salt_ts_packetize_dispersed(const uint8_t *payload, size_t payload_length, uint8_t *out,
+                                        size_t out_length);
 
 /*
  * Takes packets apart: the 187 bytes behind each first byte, which isn't checked. Answers the bytes written, 187 a
@@ -129,7 +131,8 @@ SaltPacket salt_ts_null_packet(void);
 
 /*
  * Writes null packets behind the `used` bytes in use at the front of the buffer, up to a target in packets; a target
- * at or below what is there writes nothing. Answers the bytes then in use.
+ * at or below what is there writes nothing. The null packets are clear, as those in use have to be: whitened ones are
+ * whitened again first, and all of them behind it. Answers the bytes then in use.
  * Refusals: 1 LENGTH (used is past the buffer, or not whole packets), 3 OUTPUT SHORT (the target is past the buffer).
  */
 SaltCounted salt_ts_stuff_null_packets(uint8_t *ts, size_t ts_length, size_t used, size_t target);
@@ -741,9 +744,9 @@ SaltCounted salt_reader_close_slow(SaltReader reader, uint8_t *out, size_t out_l
  */
 
 /* The number of the layout. */
-uint32_t salt_layout_d28f8a5c(void);
+uint32_t salt_layout_987d5bc8(void);
 
-#define SALT_LAYOUT salt_layout_d28f8a5c
+#define SALT_LAYOUT salt_layout_987d5bc8
 
 #ifdef __cplusplus
 }

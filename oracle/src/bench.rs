@@ -69,7 +69,8 @@ fn main() {
     reports.iter().for_each(Row::print);
     println!("Ml/s: million lines a second, best of {RUNS} runs of each program in turn; the one in Rust is oracle/src/report.rs over orion-sdr's TpsWord::unpack.");
     println!("Best of {ROUNDS} rounds in turn; ratio is ours by orion-sdr's, copy a plain copy of as many bytes: the limit.");
-    println!("orion-sdr's ts_packetize and ts_depacketize allocate the Vec that they answer; ours write into a lent buffer.");
+    println!("ts_packetize_dispersed is beside orion-sdr's ts_packetize and ts_energy_disperse in turn; orion-sdr's ts_packetize and ts_depacketize");
+    println!("allocate the Vec that they answer; ours write into a lent buffer.");
     println!("Mc/s: million calls a second, on points as a receiver sees them. orion-sdr's dvb_t_demap_symbol and dvb_t_soft_llr allocate");
     println!("the Vec that they answer, and one for each axis; ours write into a lent buffer and answer by value.");
     println!("Desk::take is beside the rule over the last four words in Rust (oracle/src/super_frames.rs), since orion-sdr has no desk.");
@@ -185,8 +186,8 @@ fn byte_rows() -> Vec<Row> {
         disperse(8, Some(20.0)),
         disperse(100, Some(80.0)),
         disperse(1000, Some(80.0)),
-        packetize(1_496),
-        packetize(187_000),
+        packetize_dispersed(1_496, 20.0),
+        packetize_dispersed(187_000, 80.0),
         depacketize(8),
         depacketize(1000),
         stuff(2, 8),
@@ -234,13 +235,16 @@ fn disperse(packets: usize, asked: Option<f64>) -> Row {
     })
 }
 
-/// Packetizing so many bytes.
-fn packetize(bytes: usize) -> Row {
+/// Whitened packets of so many bytes, beside orion-sdr's two calls in turn.
+fn packetize_dispersed(bytes: usize, asked: f64) -> Row {
     let payload = some_bytes(bytes);
     let (theirs, mut out) = (payload.clone(), orion::ts_packetize(&payload));
-    let orion = move || drop(black_box(orion::ts_packetize(black_box(&theirs))));
-    Row::new("ts_packetize", bytes, Some(0.8), orion, move || {
-        black_box(call::ts_packetize(black_box(&payload), black_box(&mut out)));
+    let orion = move || {
+        let mut packets = orion::ts_packetize(black_box(&theirs));
+        black_box(orion::ts_energy_disperse(black_box(&mut packets)));
+    };
+    Row::new("ts_packetize_dispersed", bytes, Some(asked), orion, move || {
+        black_box(call::ts_packetize_dispersed(black_box(&payload), black_box(&mut out)));
     })
 }
 

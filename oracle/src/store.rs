@@ -34,7 +34,7 @@ const FIELD: usize = 16_384;
 fn main() {
     let file = std::env::args().nth(1).expect("store FILE");
     let mut lines = Lines { random: Random::new(SEED), text: String::new() };
-    packetize(&mut lines);
+    packetize_dispersed(&mut lines);
     depacketize(&mut lines);
     null(&mut lines);
     stuff(&mut lines);
@@ -104,17 +104,27 @@ fn hexadecimal(bytes: &[u8]) -> String {
     bytes.iter().map(|byte| format!("{byte:02x}")).collect()
 }
 
-/// Payloads around whole packets, of zeros, of ones and of sync bytes.
-fn packetize(lines: &mut Lines) {
+/// The whitened packets of a payload: orion-sdr's two calls in turn.
+fn whitened(payload: &[u8]) -> Vec<u8> {
+    let mut packets = orion::ts_packetize(payload);
+    orion::ts_energy_disperse(&mut packets);
+    packets
+}
+
+/// Payloads around whole packets and whole groups, of zeros, of ones and of sync bytes; and, wrong on purpose, packets that were sent clear.
+fn packetize_dispersed(lines: &mut Lines) {
     let lengths = [0, 1, 2, 100, 185, 186, 187, 188, 189, 373, 374, 375, 376, 561, 562, 935, 1496, 2000];
     let mut payloads: Vec<Vec<u8>> = lengths.iter().map(|length| lines.random.bytes(*length)).collect();
     payloads.extend([vec![0; 5], vec![0xFF; 187], vec![0x47; 188]]);
     for payload in payloads {
-        lines.answer("ts_packetize", 0, &payload, Some(&orion::ts_packetize(&payload)));
+        lines.answer("ts_packetize_dispersed", 0, &payload, Some(&whitened(&payload)));
     }
     for (length, bit) in [(0, 8 * PACKET - 1), (188, 8 * PACKET)] {
         let payload = lines.random.bytes(length);
-        lines.turned("ts_packetize", 0, &payload, &orion::ts_packetize(&payload), bit);
+        lines.turned("ts_packetize_dispersed", 0, &payload, &whitened(&payload), bit);
+    }
+    for payload in [vec![], vec![0x47; 188]] {
+        lines.wrong("ts_packetize_dispersed", 0, &payload, 0, &orion::ts_packetize(&payload));
     }
 }
 

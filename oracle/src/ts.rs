@@ -16,7 +16,7 @@ const PAYLOAD: usize = 187;
 
 /// Compares all functions of this module.
 pub fn compare(run: &mut Run) {
-    run.compare("ts_packetize", Packetize);
+    run.compare("ts_packetize_dispersed", PacketizeDispersed);
     run.compare("ts_depacketize", Depacketize);
     run.compare("ts_null_packet", NullPacket);
     run.compare("ts_stuff_null_packets", StuffNullPackets);
@@ -76,21 +76,21 @@ fn in_every_room(random: &mut Random, input: &[u8], needed: usize, compare: &mut
     }
 }
 
-struct Packetize;
+struct PacketizeDispersed;
 
-impl Packetize {
+impl PacketizeDispersed {
     /// The bytes that a payload's packets have.
     fn needed(payload: usize) -> usize {
         payload.div_ceil(PAYLOAD).max(1) * PACKET
     }
 }
 
-impl Subject for Packetize {
+impl Subject for PacketizeDispersed {
     type Case = Through;
 
-    /// All lengths to 1,200, and random ones to 200,000 with their neighbours at a packet's end.
+    /// All lengths to 1,700, which are nine packets and more, and random ones to 200,000 with their neighbours at a packet's end.
     fn each_case(&self, random: &mut Random, compare: &mut dyn FnMut(Through)) {
-        let mut lengths: Vec<usize> = (0..=1200).collect();
+        let mut lengths: Vec<usize> = (0..=1700).collect();
         for _ in 0..12 {
             let length = random.below(200_001);
             let whole = length / PAYLOAD * PAYLOAD;
@@ -103,11 +103,14 @@ impl Subject for Packetize {
     }
 
     fn ours(&self, case: &Through) -> Answer {
-        case.ours(Self::needed(case.input.len()), call::ts_packetize)
+        case.ours(Self::needed(case.input.len()), call::ts_packetize_dispersed)
     }
 
+    /// orion-sdr's two calls in turn.
     fn expected(&self, case: &Through) -> Expected {
-        case.owed(&orion::ts_packetize(&case.input))
+        let mut packets = orion::ts_packetize(&case.input);
+        orion::ts_energy_disperse(&mut packets);
+        case.owed(&packets)
     }
 
     fn smaller<'a>(&'a self, case: &'a Through) -> Box<dyn Iterator<Item = Through> + 'a> {

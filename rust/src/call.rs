@@ -20,8 +20,8 @@ pub fn cell_same(cell: SaltCell, other: SaltCell) -> u8 {
 
 // ---- Transport packets, and energy dispersal over them (4.3.1)
 
-pub fn ts_packetize(payload: &[u8], out: &mut [u8]) -> SaltCounted {
-    unsafe { salt_ts_packetize(payload.as_ptr(), payload.len(), out.as_mut_ptr(), out.len()) }
+pub fn ts_packetize_dispersed(payload: &[u8], out: &mut [u8]) -> SaltCounted {
+    unsafe { salt_ts_packetize_dispersed(payload.as_ptr(), payload.len(), out.as_mut_ptr(), out.len()) }
 }
 
 pub fn ts_depacketize(packets: &[u8], out: &mut [u8]) -> SaltCounted {

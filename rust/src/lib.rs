@@ -6,13 +6,11 @@
 //! and has no dependencies. Functions take slices and give a `Result` whose error is a [`Refusal`]; a refused call changes nothing, but for the desk's own two.
 //!
 //! ```
-//! use saltkernel::waveform::dvb_t_ts::{ts_depacketize, ts_energy_disperse, ts_packetize};
+//! use saltkernel::waveform::dvb_t_ts::{ts_depacketize, ts_energy_disperse, ts_packetize_dispersed};
 //! use saltkernel::Refusal;
 //!
-//! let mut packets = ts_packetize(b"salt");
-//! assert_eq!(packets.len(), 188);
-//! assert_eq!(ts_energy_disperse(&mut packets), Ok(1));
-//! assert_eq!(packets[0], 0xB8);
+//! let mut packets = ts_packetize_dispersed(b"salt");
+//! assert_eq!((packets.len(), packets[0]), (188, 0xB8));
 //! assert_eq!(ts_energy_disperse(&mut packets), Ok(1));
 //! assert_eq!(&ts_depacketize(&packets)?[..4], b"salt");
 //! assert_eq!(ts_depacketize(&packets[1..]), Err(Refusal::Length));
@@ -31,6 +29,7 @@
 //! | [`Complex32`]: `re` and `im`, no arithmetic | num-complex's, of the same layout |
 //! | [`Active`], [`Signed`] and [`Bin`], none in another's place; the number is the field `.0`, and `usize::from` gives an index | `usize` and `i32` |
 //! | lists are functions (`continual_pilot_indices`, `data_bins`, `reference_pilot_bins`, ..) and given by value | constants, and slices that a grid holds |
+//! | [`ts_packetize_dispersed`] makes packets and whitens them, so that none is sent clear | `ts_packetize`, then `ts_energy_disperse` |
 //! | [`ts_stuff_null_packets`] refuses ragged bytes | asserts in debug, appends in release |
 //! | [`map_symbol`], [`extract_symbol`], [`next_symbol`] and [`feed_symbol`] give a `Result`; the last tells the bit | `()` or cells |
 //! | [`ConstellationOrder`] has three cases | and BPSK and 256-QAM |
@@ -51,6 +50,7 @@
 //! [`Active`]: waveform::dvb_t::Active
 //! [`Signed`]: waveform::dvb_t::Signed
 //! [`Bin`]: waveform::dvb_t::Bin
+//! [`ts_packetize_dispersed`]: waveform::dvb_t_ts::ts_packetize_dispersed
 //! [`ts_stuff_null_packets`]: waveform::dvb_t_ts::ts_stuff_null_packets
 //! [`map_symbol`]: waveform::dvb_t::ScatteredPilotMapper::map_symbol
 //! [`extract_symbol`]: waveform::dvb_t::ScatteredPilotExtractor::extract_symbol

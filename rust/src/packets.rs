@@ -18,34 +18,41 @@ pub(crate) fn count_of(answer: SaltCounted) -> Result<usize, Refusal> {
     accepted(answer.number, answer.count)
 }
 
-/// Puts a payload into packets: each is 0x47 and 187 bytes of the payload, the last one filled with zeros. An empty payload gives one packet.
+/// Puts a payload into packets and whitens them, orion-sdr's `ts_packetize` and [`ts_energy_disperse`] in one: each packet is 0x47 and 187 bytes of
+/// the payload, the last one filled with zeros, and is then whitened. An empty payload gives one packet.
 ///
 /// ```
-/// use saltkernel::waveform::dvb_t_ts::ts_packetize;
+/// use saltkernel::waveform::dvb_t_ts::{ts_depacketize, ts_energy_disperse, ts_packetize_dispersed};
+/// use saltkernel::Refusal;
 ///
-/// assert_eq!(ts_packetize(&[]).len(), 188);
-/// assert_eq!(ts_packetize(&[7; 187])[..2], [0x47, 7]);
-/// assert_eq!(ts_packetize(&[7; 188]).len(), 376);
+/// assert_eq!(ts_packetize_dispersed(&[]).len(), 188);
+/// assert_eq!(ts_packetize_dispersed(&[0; 188]).len(), 376);
+/// let mut packets = ts_packetize_dispersed(&[0; 187]);
+/// assert_eq!(packets[..5], [0xB8, 0x03, 0xF6, 0x08, 0x34]);
+/// ts_energy_disperse(&mut packets)?;
+/// assert_eq!(packets[..5], [0x47, 0, 0, 0, 0]);
+/// assert_eq!(ts_depacketize(&packets)?, [0; 187]);
+/// # Ok::<(), Refusal>(())
 /// ```
-pub fn ts_packetize(payload: &[u8]) -> Vec<u8> {
+pub fn ts_packetize_dispersed(payload: &[u8]) -> Vec<u8> {
     let whole = payload.len() / TS_PAYLOAD_LEN;
     let packets = if payload.is_empty() || payload.len() % TS_PAYLOAD_LEN != 0 { whole + 1 } else { whole };
     let mut out = vec![0; TS_PACKET_LEN * packets];
-    ts_packetize_into(payload, &mut out).expect("the output is as long as needed");
+    ts_packetize_dispersed_into(payload, &mut out).expect("the output is as long as needed");
     out
 }
 
-/// [`ts_packetize`] into a lent output; gives the bytes written, or [`Refusal::OutputShort`].
+/// [`ts_packetize_dispersed`] into a lent output; gives the bytes written, or [`Refusal::OutputShort`].
 ///
 /// ```
-/// use saltkernel::waveform::dvb_t_ts::ts_packetize_into;
+/// use saltkernel::waveform::dvb_t_ts::ts_packetize_dispersed_into;
 /// use saltkernel::Refusal;
 ///
-/// assert_eq!(ts_packetize_into(b"salt", &mut [0; 200]), Ok(188));
-/// assert_eq!(ts_packetize_into(b"salt", &mut [0; 187]), Err(Refusal::OutputShort));
+/// assert_eq!(ts_packetize_dispersed_into(b"salt", &mut [0; 200]), Ok(188));
+/// assert_eq!(ts_packetize_dispersed_into(b"salt", &mut [0; 187]), Err(Refusal::OutputShort));
 /// ```
-pub fn ts_packetize_into(payload: &[u8], out: &mut [u8]) -> Result<usize, Refusal> {
-    count_of(call::ts_packetize(payload, out))
+pub fn ts_packetize_dispersed_into(payload: &[u8], out: &mut [u8]) -> Result<usize, Refusal> {
+    count_of(call::ts_packetize_dispersed(payload, out))
 }
 
 /// Takes packets apart: the 187 bytes behind each first byte, which isn't checked. No byte, or not whole packets, is [`Refusal::Length`].
@@ -73,10 +80,10 @@ pub fn ts_null_packet() -> [u8; TS_PACKET_LEN] {
 /// [`Refusal::Length`], a target that no memory holds is [`Refusal::OutputShort`]; the bytes then stay as they are.
 ///
 /// ```
-/// use saltkernel::waveform::dvb_t_ts::{ts_null_packet, ts_packetize, ts_stuff_null_packets};
+/// use saltkernel::waveform::dvb_t_ts::{ts_null_packet, ts_stuff_null_packets};
 /// use saltkernel::Refusal;
 ///
-/// let mut ts = ts_packetize(b"salt");
+/// let mut ts = Vec::new();
 /// ts_stuff_null_packets(&mut ts, 3)?;
 /// assert_eq!(ts.len(), 3 * 188);
 /// assert_eq!(ts[376..], ts_null_packet());

@@ -80,7 +80,7 @@ pub struct SaltPacket {
 }
 
 extern "C" {
-    pub fn salt_ts_packetize(payload: *const u8, payload_length: usize, out: *mut u8, out_length: usize) -> SaltCounted;
+    pub fn salt_ts_packetize_dispersed(payload: *const u8, payload_length: usize, out: *mut u8, out_length: usize) -> SaltCounted;
     pub fn salt_ts_depacketize(packets: *const u8, packets_length: usize, out: *mut u8, out_length: usize) -> SaltCounted;
     pub fn salt_ts_null_packet() -> SaltPacket;
     pub fn salt_ts_stuff_null_packets(ts: *mut u8, ts_length: usize, used: usize, target: usize) -> SaltCounted;
@@ -448,11 +448,11 @@ extern "C" {
 // ---- The layout
 
 extern "C" {
-    pub fn salt_layout_d28f8a5c() -> u32;
+    pub fn salt_layout_987d5bc8() -> u32;
 }
 
 /// Refers to the layout, so that nothing links with an archive of another one; it is called as a program starts, since
 /// a linker drops nothing of what is.
 #[used]
 #[link_section = ".init_array"]
-static LAYOUT: unsafe extern "C" fn() -> u32 = salt_layout_d28f8a5c;
+static LAYOUT: unsafe extern "C" fn() -> u32 = salt_layout_987d5bc8;

@@ -43,16 +43,19 @@ fn refusals_have_their_numbers_and_names() {
 
 #[test]
 fn payloads_come_back_out_of_packets() {
-    let payload = noise(600);
+    let payload = noise(1800);
     for length in 0..payload.len() {
-        let packets = ts_packetize(&payload[..length]);
-        assert_eq!(packets.len(), 188 * usize::max(1, (length + 186) / 187));
+        let mut packets = ts_packetize_dispersed(&payload[..length]);
+        let count = usize::max(1, (length + 186) / 187);
+        assert_eq!((packets.len(), packets[0]), (188 * count, 0xB8));
+        assert_eq!(ts_energy_disperse(&mut packets), Ok(count));
+        assert!(packets.chunks(188).all(|packet| packet[0] == 0x47));
         let back = ts_depacketize(&packets).unwrap();
         assert_eq!(back[..length], payload[..length]);
         assert!(back[length..].iter().all(|&byte| byte == 0));
     }
     let mut out = [9; 190];
-    assert_eq!(ts_packetize_into(&payload[..5], &mut out), Ok(188));
+    assert_eq!(ts_packetize_dispersed_into(&payload[..5], &mut out), Ok(188));
     assert_eq!(out[188..], [9, 9]);
     assert_eq!(ts_depacketize(&[]), Err(Refusal::Length));
     assert_eq!(ts_depacketize_into(&out[..188], &mut [0; 186]), Err(Refusal::OutputShort));
@@ -60,7 +63,7 @@ fn payloads_come_back_out_of_packets() {
 
 #[test]
 fn stuffing_grows_whole_packets_alone() {
-    let mut ts = ts_packetize(&noise(10));
+    let mut ts = noise(188);
     let before = ts.clone();
     assert_eq!(ts_stuff_null_packets(&mut ts, 1), Ok(()));
     assert_eq!(ts, before);

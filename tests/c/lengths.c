@@ -39,7 +39,7 @@ static const SaltScatteredPilotExtractor extractor = {3};
 static const SaltTpsWord word = {3, 1, 2, 1, 99};
 
 /* Functions of packets. The register of a whitener that was fed isn't 0. */
-static uint8_t packetize(const Lent *lent) { return salt_ts_packetize(AT(0), AT(1)).number; }
+static uint8_t packetize(const Lent *lent) { return salt_ts_packetize_dispersed(AT(0), AT(1)).number; }
 static uint8_t depacketize(const Lent *lent) { return salt_ts_depacketize(AT(0), AT(1)).number; }
 static uint8_t stuff(const Lent *lent) { return salt_ts_stuff_null_packets(AT(0), SALT_PACKET_BYTES, 2).number; }
 static uint8_t disperse(const Lent *lent) { return salt_ts_energy_disperse(AT(0)).number; }
@@ -111,7 +111,7 @@ static uint8_t reader_close_slow(const Lent *lent) { return salt_reader_close_sl
 static uint8_t reader_close(const Lent *lent) { return salt_reader_close(salt_reader_new(), AT(0)).number; }
 
 static const Function functions[] = {
-    {"ts_packetize", packetize, {{1, 187, READ, GROWS}, {1, 188, FRONT, OUTPUT}}},
+    {"ts_packetize_dispersed", packetize, {{1, 187, READ, GROWS}, {1, 188, FRONT, OUTPUT}}},
     {"ts_depacketize", depacketize, {{1, 188, READ, ONE_LENGTH}, {1, 187, FRONT, OUTPUT}}},
     {"ts_stuff_null_packets", stuff, {{1, 376, FRONT, {SALT_LENGTH, SALT_LENGTH, SALT_OUTPUT_SHORT, SALT_ACCEPTED, SALT_ACCEPTED}}}},
     {"ts_energy_disperse", disperse, {{1, 188, FRONT, {SALT_ACCEPTED, SALT_LENGTH, SALT_LENGTH, SALT_ACCEPTED, SALT_LENGTH}}}},
@@ -210,7 +210,7 @@ static void all_empty(const Function *function) {
 /* The lengths that a failed read hands on, as if they were a slice's: wherever the call can refuse, it does, and reads and writes nothing. */
 static void failed_read(size_t length) {
     uint8_t in[1] = {0}, out[60] = {0};
-    CHECK(salt_ts_packetize(in, length, out, sizeof out).number == SALT_OUTPUT_SHORT);
+    CHECK(salt_ts_packetize_dispersed(in, length, out, sizeof out).number == SALT_OUTPUT_SHORT);
     CHECK(salt_ts_depacketize(in, length, out, sizeof out).number == SALT_LENGTH);
     CHECK(salt_ts_energy_disperse(out, length).number == SALT_LENGTH);
     CHECK(salt_ts_stuff_null_packets(out, sizeof out, length, 0).number == SALT_LENGTH);

@@ -3,17 +3,23 @@
 
 #include <string.h>
 
-/* A payload of each length up to three packets comes back out of its packets. */
+/* A payload of each length up to ten packets comes back out of its packets, which are whitened, the first and the ninth with a flipped first byte. */
 static void there_and_back(void) {
-    uint8_t payload[3 * SALT_PAYLOAD_BYTES], packets[3 * SALT_PACKET_BYTES], back[3 * SALT_PAYLOAD_BYTES];
+    uint8_t payload[10 * SALT_PAYLOAD_BYTES], packets[10 * SALT_PACKET_BYTES], back[10 * SALT_PAYLOAD_BYTES];
     for (size_t i = 0; i < sizeof payload; i++) {
         payload[i] = noise();
     }
     for (size_t length = 0; length <= sizeof payload; length++) {
         size_t count = length == 0 ? 1 : (length + SALT_PAYLOAD_BYTES - 1) / SALT_PAYLOAD_BYTES;
-        SaltCounted made = salt_ts_packetize(payload, length, packets, sizeof packets);
+        SaltCounted made = salt_ts_packetize_dispersed(payload, length, packets, sizeof packets);
         CHECK(made.number == SALT_ACCEPTED && made.count == count * SALT_PACKET_BYTES);
-        CHECK(packets[0] == SALT_SYNC_BYTE && packets[made.count - SALT_PACKET_BYTES] == SALT_SYNC_BYTE);
+        for (size_t i = 0; i < count; i++) {
+            CHECK(packets[i * SALT_PACKET_BYTES] == (i % SALT_GROUP_PACKETS == 0 ? 0xB8 : SALT_SYNC_BYTE));
+        }
+        CHECK(salt_ts_energy_disperse(packets, made.count).count == count);
+        for (size_t i = 0; i < count; i++) {
+            CHECK(packets[i * SALT_PACKET_BYTES] == SALT_SYNC_BYTE);
+        }
         SaltCounted apart = salt_ts_depacketize(packets, made.count, back, sizeof back);
         CHECK(apart.number == SALT_ACCEPTED && apart.count == count * SALT_PAYLOAD_BYTES);
         CHECK(memcmp(back, payload, length) == 0);

@@ -4,9 +4,9 @@ use Prim.Native.Nat.{ℕ, zero, suc, _+_, _*_, _%_, _^_, _<_}
 use native.Mathlib.Nat.{not-suc-le-zero, le-of-suc-le-suc}
 use native.Mathlib.Omega.{arith}
 use mathlib.Core.Path.{_≡_, refl, sym, ap, ap₂, _∙_}
-use mathlib.Core.List.{List, [], _∷_}
+use mathlib.Core.List.{List, [], _∷_, _++_}
 use lib.Bits.{bitXor, xor-zero-l}
-use lib.ListN.{length, getD, set, replicate}
+use lib.ListN.{length, getD, set, take, drop, replicate}
 use Rattle.ground.proofs.Xor.{xor-again}
 use Rattle.ground.proofs.Front.{front, front-next, front-full, front-behind}
 use Rattle.dispersal.specs.Register.{output, step, steps, outputs, start, whitened}
@@ -75,6 +75,18 @@ pub xored-is-whitened : (r : ℕ) (s : List ℕ) → xored s (stream (length s) 
 unfolding xored stream whitened
 xored-is-whitened r [] = refl
 xored-is-whitened r (b ∷ s) = ap (λ (l : List ℕ). bitXor b (outputs 8 r) ∷ l) (xored-is-whitened (steps 8 r) s)
+
+-- zeros that are whitened are the stream, so bytes and zeros behind them are the bytes whitened and then the stream
+xored-zeros : (m : List ℕ) → xored (replicate (length m) 0) m ≡ m
+unfolding xored
+xored-zeros [] = refl
+xored-zeros (x ∷ m) = ap₂ (λ (y : ℕ) (l : List ℕ). y ∷ l) (xor-zero-l x) (xored-zeros m)
+
+pub xored-filled : (s m : List ℕ) (k : ℕ) → length m ≡ length s + k → xored s (take (length s) m) ++ drop (length s) m ≡ xored (s ++ replicate k 0) m
+unfolding xored
+xored-filled [] m k l = let e : length m ≡ k = omega arith in sym (ap (λ (n : ℕ). xored (replicate n 0) m) (sym e) ∙ xored-zeros m)
+xored-filled (b ∷ s) [] k l = absurd (omega arith)
+xored-filled (b ∷ s) (x ∷ m) k l = ap (λ (t : List ℕ). bitXor b x ∷ t) (xored-filled s m k (omega arith))
 
 -- one byte more is whitened with the stream
 pub xored-next : (m o s : List ℕ) (i : ℕ) → length m ≡ length o → i < length o → s ≡ front (xored o m) i o

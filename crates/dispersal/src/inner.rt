@@ -17,6 +17,18 @@ pub fn whiten(outputs: &[u8], bytes: &mut [u8])
     }
 }
 
+// Whitens bytes into a slice of the same length, with a stream of outputs that is as long as they are.
+pub fn whiten_into(outputs: &[u8], bytes: &[u8], out: &mut [u8])
+    requires { ⌜ (length (now outputs) ≡ length (now bytes)) × (length (now bytes) ≡ length (now out)) ⌝ }
+    ensures { λ _. ⌜ now (out .exit) ≡ xored (now (bytes .entry)) (now (outputs .entry)) ⌝ }
+{
+    let mut i = 0;
+    while i < out.len() {
+        out[i] = bytes[i] ^ outputs[i];
+        i += 1;
+    }
+}
+
 // Fills a slice with the register's outputs from its start on, by the register itself.
 fn begin_outputs(outputs: &mut [u8])
     ensures { λ _. ⌜ now (outputs .exit) ≡ stream (length (now (outputs .entry))) start ⌝ }

@@ -12,7 +12,7 @@ use libc::STDOUT_FILENO;
 
 // The rows of the report, 24 columns each: the functions, whose place is their number in `answer`, and two more.
 const NAMES: [u8; 480] = *b"\
-    ts_packetize            \
+    ts_packetize_dispersed  \
     ts_depacketize          \
     ts_null_packet          \
     ts_stuff_null_packets   \
@@ -76,7 +76,7 @@ pub(crate) fn answer(
     requires { ⌜ length (now input) ≤ 16384 ⌝ }
 {
     match function {
-        0 => ts::ts_packetize(input, room),
+        0 => ts::ts_packetize_dispersed(input, room),
         1 => ts::ts_depacketize(input, room),
         2 => packets::null(room),
         3 => packets::stuff(number, input, room),

@@ -6,8 +6,8 @@ ghost use mathlib.Core.Path.{_≡_};
 
 // The number of the layout.
 #[no_mangle]
-pub extern "C" fn salt_layout_d28f8a5c() -> u32
-    ensures { λ r. ⌜ r ≡ 3532622428 ⌝ }
+pub extern "C" fn salt_layout_987d5bc8() -> u32
+    ensures { λ r. ⌜ r ≡ 2558352328 ⌝ }
 {
-    3532622428
+    2558352328
 }

@@ -1,8 +1,9 @@
 // Transport packets, and energy dispersal over them (4.3.1).
 ghost use mathlib.Core.Path.{_≡_};
-ghost use Rattle.ts.specs.Packets.{packetizeAnswer, packetizeLeaves, depacketizeAnswer, depacketizeLeaves};
+ghost use Rattle.ts.specs.Packets.{depacketizeAnswer, depacketizeLeaves};
 ghost use Rattle.ts.specs.Stuffing.{null, stuffAnswer, stuffLeaves};
 ghost use Rattle.ts.specs.Dispersal.{disperseAnswer, disperseLeaves};
+ghost use Rattle.ts.specs.PacketizeDispersed.{packetizeDispersedAnswer, packetizeDispersedLeaves};
 ghost use Rattle.saltkernel.specs.Numbers.{Says};
 use super::SaltCounted;
 use super::numbers_of;
@@ -14,15 +15,16 @@ pub struct SaltPacket {
     pub bytes: [u8; sizes::PACKET_BYTES],
 }
 
-// Puts a payload into packets: each is 0x47 and 187 bytes of the payload, the last one filled with zeros. An empty
-// payload gives one packet. Answers the bytes written, 188 max(1, ceil(payload_length / 187)).
+// Puts a payload into packets and whitens them: each is 0x47 and 187 bytes of the payload, the last one filled with
+// zeros, and then what salt_ts_energy_disperse makes of it, so that nothing is sent clear. An empty payload gives one
+// packet. Answers the bytes written, 188 max(1, ceil(payload_length / 187)).
 // Refusals: 3 OUTPUT SHORT.
 #[no_mangle]
-pub extern "C" fn salt_ts_packetize(payload: &[u8], out: &mut [u8]) -> SaltCounted
-    ensures answer { λ r. ⌜ Says r (packetizeAnswer (now (payload .entry)) (now (out .entry))) ⌝ }
-    ensures output { λ _. ⌜ now (out .exit) ≡ packetizeLeaves (now (payload .entry)) (now (out .entry)) ⌝ }
+pub extern "C" fn salt_ts_packetize_dispersed(payload: &[u8], out: &mut [u8]) -> SaltCounted
+    ensures answer { λ r. ⌜ Says r (packetizeDispersedAnswer (now (payload .entry)) (now (out .entry))) ⌝ }
+    ensures output { λ _. ⌜ now (out .exit) ≡ packetizeDispersedLeaves (now (payload .entry)) (now (out .entry)) ⌝ }
 {
-    numbers_of(ts::ts_packetize(payload, out))
+    numbers_of(ts::ts_packetize_dispersed(payload, out))
 }
 
 // Takes packets apart: the 187 bytes behind each first byte, which isn't checked. Answers the bytes written, 187 a
@@ -46,7 +48,8 @@ pub extern "C" fn salt_ts_null_packet() -> SaltPacket
 }
 
 // Writes null packets behind the `used` bytes in use at the front of the buffer, up to a target in packets; a target
-// at or below what is there writes nothing. Answers the bytes then in use.
+// at or below what is there writes nothing. The null packets are clear, as those in use have to be: whitened ones are
+// whitened again first, and all of them behind it. Answers the bytes then in use.
 // Refusals: 1 LENGTH (used is past the buffer, or not whole packets), 3 OUTPUT SHORT (the target is past the buffer).
 #[no_mangle]
 pub extern "C" fn salt_ts_stuff_null_packets(

@@ -1,5 +1,5 @@
--- Over the calls: the bytes answered are the length of what is written, and what was packetized is taken apart to the
--- payload. Assumes nothing.
+-- Over the calls: the bytes answered are the length of what is written, and what was sent is whitened again and taken
+-- apart to the payload. Assumes nothing.
 use Prim.Native.Nat.{ℕ, _+_, _-_, _*_, _/_, _%_, _≤_, max}
 use native.Mathlib.Omega.{arith}
 use mathlib.Core.Path.{_≡_, sym, ap, _∙_, subst}
@@ -9,16 +9,20 @@ use Rattle.ground.specs.Answer.{countOf, kept}
 use Rattle.ground.specs.Refusal.{ACCEPTED}
 use Rattle.ground.proofs.Answers.{answered}
 use Rattle.ground.proofs.Chunks.{chunks-length}
-use Rattle.ts.specs.Packets.{count, packet, packetized, packetizeNo, packetizeAnswer, packetizeLeaves, payloads, depacketizeNo, depacketizeAnswer, depacketizeLeaves}
-use Rattle.ts.specs.Stuffing.{null, nulls, stuffed, stuffNo, stuffAnswer, stuffLeaves}
-use Rattle.ts.proofs.Numbers.{depacketize-accepted, stuff-taken}
+use Rattle.ts.specs.Packets.{count, packetized, payloads, depacketizeNo, depacketizeAnswer, depacketizeLeaves}
+use Rattle.ts.specs.Stuffing.{null, nulls, stuffNo, stuffAnswer, stuffLeaves}
+use Rattle.ts.specs.Dispersal.{dispersed, disperseNo, disperseLeaves}
+use Rattle.ts.specs.PacketizeDispersed.{bytesFor, packetizeDispersedNo, packetizeDispersedAnswer, packetizeDispersedLeaves}
+use Rattle.ts.proofs.Numbers.{depacketize-accepted, disperse-accepted, stuff-taken}
 use Rattle.ts.proofs.Packets.{packetized-length, payloads-each, taken-apart-is-payload}
+use Rattle.ts.proofs.WhitenedPackets.{whitened-length, whitened-again}
 use Rattle.ts.proofs.Stuffing.{nulls-each}
 
-pub packetize-answers-length : (payload out : List ℕ) → packetizeNo payload out ≡ ACCEPTED
-    → (countOf (packetizeAnswer payload out) ≡ length (packetized payload))
-    × (take (countOf (packetizeAnswer payload out)) (packetizeLeaves payload out) ≡ packetized payload)
-packetize-answers-length payload out a = answered (packetizeNo payload out) (188 * count (length payload)) (packetized payload) out a (packetized-length payload)
+pub packetize-dispersed-answers-length : (payload out : List ℕ) → packetizeDispersedNo payload out ≡ ACCEPTED
+    → (countOf (packetizeDispersedAnswer payload out) ≡ length (dispersed (packetized payload)))
+    × (take (countOf (packetizeDispersedAnswer payload out)) (packetizeDispersedLeaves payload out) ≡ dispersed (packetized payload))
+packetize-dispersed-answers-length payload out a =
+    answered (packetizeDispersedNo payload out) (bytesFor payload) (dispersed (packetized payload)) out a (whitened-length payload)
 
 pub depacketize-answers-length : (packets out : List ℕ) → depacketizeNo packets out ≡ ACCEPTED
     → (countOf (depacketizeAnswer packets out) ≡ length (payloads packets))
@@ -43,13 +47,22 @@ stuff-answers-length used target ts a =
     subst (λ (rest : List ℕ). (countOf (stuffAnswer used target ts) ≡ length (take used ts ++ nulls n)) × (take (countOf (stuffAnswer used target ts)) (kept (stuffNo used target ts) (take used ts ++ nulls n ++ rest) ts) ≡ take used ts ++ nulls n))
     (sym e) (answered (stuffNo used target ts) (max used (188 * target)) (take used ts ++ nulls n) ts a l)
 
--- what `ts_packetize` wrote, handed to `ts_depacketize` with room, is accepted, and gives the payload, then zeros to
--- the end of the last packet
-pub calls-give-payload : (payload out out′ : List ℕ) → packetizeNo payload out ≡ ACCEPTED → 187 * count (length payload) ≤ length out′
-    → let packets = take (countOf (packetizeAnswer payload out)) (packetizeLeaves payload out) in
-    (depacketizeNo packets out′ ≡ ACCEPTED)
+-- what `ts_packetize_dispersed` wrote, whitened again by `ts_energy_disperse` and handed to `ts_depacketize` with room,
+-- is accepted by both, and gives the payload, then zeros to the end of the last packet
+pub calls-give-payload : (payload out out′ : List ℕ) → packetizeDispersedNo payload out ≡ ACCEPTED → 187 * count (length payload) ≤ length out′
+    → let sent = take (countOf (packetizeDispersedAnswer payload out)) (packetizeDispersedLeaves payload out) in
+    let packets = disperseLeaves sent in
+    (disperseNo sent ≡ ACCEPTED)
+    × (depacketizeNo packets out′ ≡ ACCEPTED)
     × (take (countOf (depacketizeAnswer packets out′)) (depacketizeLeaves packets out′) ≡ payload ++ replicate (187 * count (length payload) - length payload) 0)
 calls-give-payload payload out out′ a room =
     let l = packetized-length payload in
+    let w = whitened-length payload in
     let b : depacketizeNo (packetized payload) out′ ≡ ACCEPTED = depacketize-accepted (packetized payload) out′ (λ z. absurd (omega (arith, l, z))) (omega (arith, l)) (omega (arith, l)) in
-    rw (packetize-answers-length payload out a .1) (b, depacketize-answers-length (packetized payload) out′ b .1 ∙ taken-apart-is-payload payload)
+    let d : disperseNo (dispersed (packetized payload)) ≡ ACCEPTED = disperse-accepted (dispersed (packetized payload)) (omega (arith, w)) in
+    let e = packetize-dispersed-answers-length payload out a .1 in
+    let back = ap disperseLeaves e ∙ whitened-again payload in (
+      ap disperseNo e ∙ d,
+      ap (λ (p : List ℕ). depacketizeNo p out′) back ∙ b,
+      ap (λ (p : List ℕ). take (countOf (depacketizeAnswer p out′)) (depacketizeLeaves p out′)) back ∙ depacketize-answers-length (packetized payload) out′ b .1 ∙ taken-apart-is-payload payload,
+    )

@@ -2,12 +2,13 @@
 use Prim.Native.Nat.{ℕ}
 use mathlib.Core.List.{List}
 use Rattle.ground.proofs.Answers.{OneAnswer, one-answer, OneResult, one-result}
-use Rattle.ts.specs.Packets.{packetizeAnswer, packetizeLeaves, depacketizeAnswer, depacketizeLeaves}
+use Rattle.ts.specs.Packets.{depacketizeAnswer, depacketizeLeaves}
 use Rattle.ts.specs.Stuffing.{null, stuffAnswer, stuffLeaves}
 use Rattle.ts.specs.Dispersal.{disperseAnswer, disperseLeaves}
+use Rattle.ts.specs.PacketizeDispersed.{packetizeDispersedAnswer, packetizeDispersedLeaves}
 
-pub packetize-determined : (payload out : List ℕ) → OneResult (packetizeAnswer payload out) (packetizeLeaves payload out)
-packetize-determined payload out = one-result (packetizeAnswer payload out) (packetizeLeaves payload out)
+pub packetize-dispersed-determined : (payload out : List ℕ) → OneResult (packetizeDispersedAnswer payload out) (packetizeDispersedLeaves payload out)
+packetize-dispersed-determined payload out = one-result (packetizeDispersedAnswer payload out) (packetizeDispersedLeaves payload out)
 
 pub depacketize-determined : (packets out : List ℕ) → OneResult (depacketizeAnswer packets out) (depacketizeLeaves packets out)
 depacketize-determined packets out = one-result (depacketizeAnswer packets out) (depacketizeLeaves packets out)

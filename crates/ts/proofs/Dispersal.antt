@@ -76,18 +76,20 @@ lent-outputs k m u h em eu =
     ap₂ (λ (x : ℕ) (y : List ℕ). take x (drop (188 * k) y)) em eu ∙ stream-part 187 (188 * k) 1504 start (omega arith)
     ∙ ap (stream 187) (ap (λ (x : ℕ). steps (8 * (188 * x)) start) (sym e) ∙ sym (register-at-is-steps k))
 
--- the first byte was put, and the tail lent behind it came back whitened
-pub packet-dispersed : (k m n : ℕ) (u p q t : List ℕ) → k < 8 → m ≡ 187 → u ≡ stream 1504 start → length p ≡ 188 → q ≡ set p 0 (sync k (getD p 0 0))
-    → n ≡ 187 → t ≡ xored (midOf 1 n q) (take m (drop (188 * k) u)) → putMid 1 n q t ≡ dispersedPacket k p
+-- the first byte was put, and the tail lent behind it came back as the bytes behind it, whitened
+pub packet-put : (k m n b : ℕ) (u p q bs t : List ℕ) → k < 8 → m ≡ 187 → u ≡ stream 1504 start → length p ≡ 188 → q ≡ set p 0 (sync k b) → n ≡ 187
+    → length bs ≡ 187 → t ≡ xored bs (take m (drop (188 * k) u)) → putMid 1 n q t ≡ dispersedPacket k (b ∷ bs)
 unfolding dispersedPacket
-packet-dispersed k m n u [] q t hk em eu l eq en et = absurd (omega arith)
-packet-dispersed k m n u (x ∷ bs) q t hk em eu l eq en et =
-    let part : midOf 1 n q ≡ bs = ap (midOf 1 n) eq ∙ take-all n bs (omega arith) in
-    let rest : drop n bs ≡ [] = drop-of-length-le bs {i = n} (omega arith) in
-    let lb : 187 ≡ length bs = omega arith in
-    let w : t ≡ whitened (registerAt k) bs =
-    et ∙ ap₂ xored part (lent-outputs k m u hk em eu ∙ ap (λ (y : ℕ). stream y (registerAt k)) lb) ∙ xored-is-whitened (registerAt k) bs in
-    ap₂ (putMid 1 n) eq w ∙ ap (λ (y : List ℕ). sync k x ∷ (whitened (registerAt k) bs ++ y)) rest ∙ ap (λ (y : List ℕ). sync k x ∷ y) (append-nil (whitened (registerAt k) bs))
+packet-put k m n b u [] q bs t hk em eu l eq en lb et = absurd (omega arith)
+packet-put k m n b u (x ∷ p) q bs t hk em eu l eq en lb et =
+    let rest : drop n p ≡ [] = drop-of-length-le p {i = n} (omega arith) in
+    let w : t ≡ whitened (registerAt k) bs = et ∙ ap (xored bs) (lent-outputs k m u hk em eu ∙ ap (λ (y : ℕ). stream y (registerAt k)) (sym lb)) ∙ xored-is-whitened (registerAt k) bs in
+    ap₂ (putMid 1 n) eq w ∙ ap (λ (y : List ℕ). sync k b ∷ (whitened (registerAt k) bs ++ y)) rest ∙ ap (λ (y : List ℕ). sync k b ∷ y) (append-nil (whitened (registerAt k) bs))
+
+-- a packet's own first byte, and the tail lent behind it, are the packet
+pub own-packet : (n y : ℕ) (p q : List ℕ) → length p ≡ 188 → q ≡ set p 0 y → n ≡ 187 → getD p 0 0 ∷ midOf 1 n q ≡ p
+own-packet n y [] q l eq en = absurd (omega arith)
+own-packet n y (x ∷ p) q l eq en = ap (λ (r : List ℕ). x ∷ midOf 1 n r) eq ∙ ap (λ (r : List ℕ). x ∷ r) (take-all n p (omega arith))
 
 -- the part that the code lends of a buffer whose front is dispersed is still the packet
 pub lent-packet : (w o s : List ℕ) (i k : ℕ) → length w ≡ length o → 188 * i + 188 ≤ length o → k ≡ 188 → s ≡ front w (188 * i) o
@@ -108,7 +110,7 @@ packet-twice i [] = refl
 packet-twice i (b ∷ bs) = ap₂ (λ (x : ℕ) (l : List ℕ). x ∷ l) (sync-twice b (eqb (i % 8) 0)) (whitened-twice (registerAt i) bs)
 
 module _ (s : List ℕ) (m : length s % 188 ≡ 0) where
-  dispersed-same-length : length (dispersed s) ≡ length s
+  pub dispersed-same-length : length (dispersed s) ≡ length s
   dispersed-same-length =
       chunks-length dispersedPacket 188 188 (length s / 188) 0 s (dispersed-each (length s / 188) s (omega arith)) ∙ omega arith
 

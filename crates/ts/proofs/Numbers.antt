@@ -1,6 +1,6 @@
 -- When each number of a call is given: a refusal's exactly where its test holds and none before it. Assumes nothing.
 use Prim.Native.Nat.{ℕ, _*_, _/_, _%_, _<_, _≤_}
-use mathlib.Core.Path.{_≡_, subst}
+use mathlib.Core.Path.{_≡_}
 use mathlib.Core.Bool.{not}
 use mathlib.Core.List.{List, [], _∷_}
 use mathlib.Core.Logic.{_⊎_, _↔_, Iff·rfl}
@@ -9,23 +9,22 @@ use lib.ListN.{length}
 use borrow.Author.Tests.{le-ltb, eq-eqb, ne-eqb}
 use Rattle.ground.specs.Answer.{short}
 use Rattle.ground.specs.Refusal.{ACCEPTED, LENGTH, OUTPUT-SHORT, Test, _gives_}
-use Rattle.ground.proofs.Exactly.{Decides, less-decides, equal-decides, not-decides, given-here, given-either, given-behind, fill-short-exactly}
-use Rattle.ts.specs.Packets.{count, packetizeNo, depacketizeNo}
+use Rattle.ground.proofs.Exactly.{Decides, less-decides, equal-decides, not-decides, lacks-number, given-here, given-either, given-behind, fill-short-exactly}
+use Rattle.ts.specs.Packets.{depacketizeNo}
 use Rattle.ts.specs.Stuffing.{stuffNo}
 use Rattle.ts.specs.Dispersal.{disperseNo}
+use Rattle.ts.specs.PacketizeDispersed.{bytesFor, packetizeDispersedNo}
 
 -- n bytes aren't whole packets
 ragged : (n : ℕ) → Decides (not (eqb (n % 188) 0)) (n % 188 ≡ 0 → ⊥) (n % 188 ≡ 0)
 ragged n = not-decides (equal-decides (n % 188) 0)
 
 module _ (s out : List ℕ) where
-  pub packetize-accepted : (n : ℕ) → n ≡ count (length s) → 188 * n ≤ length out → packetizeNo s out ≡ ACCEPTED
-  unfolding packetizeNo
-  packetize-accepted n e h = rw (le-ltb (length out) (188 * count (length s)) (subst (λ (x : ℕ). 188 * x ≤ length out) e h))
+  pub packetize-dispersed-short-exactly : (packetizeDispersedNo s out ≡ OUTPUT-SHORT) ↔ (length out < bytesFor s)
+  packetize-dispersed-short-exactly = fill-short-exactly (bytesFor s) out
 
-  pub packetize-short-exactly : (packetizeNo s out ≡ OUTPUT-SHORT) ↔ (length out < 188 * count (length s))
-  unfolding packetizeNo
-  packetize-short-exactly = fill-short-exactly (188 * count (length s)) out
+  pub packetize-dispersed-never-length : packetizeDispersedNo s out ≡ LENGTH → ⊥
+  packetize-dispersed-never-length = lacks-number LENGTH (short (bytesFor s) out gives OUTPUT-SHORT ∷ []) tt
 
   pub depacketize-accepted : (length s ≡ 0 → ⊥) → length s % 188 ≡ 0 → 187 * (length s / 188) ≤ length out → depacketizeNo s out ≡ ACCEPTED
   unfolding depacketizeNo

@@ -1,18 +1,19 @@
--- A packet's length, the part of a payload that becomes one, and the part of a packet that is its payload; taking
--- apart what was packetized gives the payload, then zeros. Assumes nothing.
-use Prim.Native.Nat.{ℕ, zero, suc, _+_, _*_, _<_, _≤_, _-_, min, _/_}
+-- A packet's length, its tail as the code puts it, and the part of a packet that is its payload; taking apart what was
+-- packetized gives the payload, then zeros. Assumes nothing.
+use Prim.Native.Nat.{ℕ, zero, suc, _+_, _*_, _<_, _≤_, _-_, _/_}
 use native.Mathlib.Omega.{arith}
-use native.Mathlib.Nat.{suc-min-suc, zero-min}
 use mathlib.Core.Path.{_≡_, refl, sym, ap, ap₂, _∙_}
 use mathlib.Core.Bool.{Bool, true, false}
 use mathlib.Core.List.{List, [], _∷_, _++_, append-nil, append-assoc}
 use lib.Dec.{leb}
-use lib.ListN.{length, set, take, drop, length-take, length-drop, drop-of-length-le, replicate, length-append, length-replicate, take-append-drop, replicate-append-replicate}
-use lib.Seq.{take-all, drop-at, drop-drop, take-nil, take-at}
+use lib.ListN.{length, take, drop, length-take, length-drop, drop-of-length-le, replicate, length-append, length-replicate, take-append-drop, replicate-append-replicate}
+use lib.Seq.{take-all, drop-at, drop-drop, take-at}
 use borrow.Author.Tests.{leb-true, leb-false}
-use borrow.Rule.Slice.PartMut.{midOf, putMid}
+use borrow.Rule.Slice.PartMut.{putMid}
 use Rattle.ground.specs.Chunks.{chunks}
 use Rattle.ground.proofs.Chunks.{Each, chunks-length, chunks-chunks}
+use Rattle.dispersal.specs.Inner.{xored}
+use Rattle.dispersal.proofs.Whitening.{xored-length, xored-filled}
 use Rattle.ts.specs.Packets.{padded, packet, count, packetized, payloads}
 
 pub padded-length : (c : List ℕ) → length c ≤ 187 → length (padded c) ≡ 187
@@ -31,18 +32,6 @@ packets-each n s j l = packet-length (take 187 (drop (187 * j) s)) (simp length-
 pub payloads-each : (n : ℕ) (s : List ℕ) → 188 * n ≤ length s → Each (λ (i : ℕ) (p : List ℕ). drop 1 p) 188 187 n 0 s
 payloads-each n s h j l = simp (length-drop, length-take) (omega arith)
 
-take-min : (n : ℕ) (l : List ℕ) → take (min n (length l)) l ≡ take n l
-take-min zero l = ap (λ (k : ℕ). take k l) (zero-min (length l))
-take-min (suc n) [] = take-nil (min (suc n) 0)
-take-min (suc n) (x ∷ l) = ap (λ (k : ℕ). take k (x ∷ l)) (suc-min-suc n (length l)) ∙ ap (λ (r : List ℕ). x ∷ r) (take-min n l)
-
--- the part that the code lends, up to the payload's end, is the part of 187 bytes or what is left
-pub lent-chunk : (s : List ℕ) (from to : ℕ) → from ≤ length s → to ≡ from + min 187 (length s - from) → take (to - from) (drop from s) ≡ take 187 (drop from s)
-lent-chunk s from to h e =
-    let l : length (drop from s) ≡ length s - from = length-drop from s in
-    let k : to - from ≡ min 187 (length s - from) = omega arith in
-    ap (λ (x : ℕ). take x (drop from s)) (k ∙ ap (min 187) (sym l)) ∙ take-min 187 (drop from s)
-
 drop-take : (n : ℕ) (l : List ℕ) → drop 1 (take (suc n) l) ≡ take n (drop 1 l)
 drop-take zero [] = refl
 drop-take (suc n) [] = refl
@@ -58,26 +47,20 @@ pub padded-full : (c : List ℕ) → length c ≡ 187 → c ≡ padded c
 unfolding padded
 padded-full c h = let z : 0 ≡ 187 - length c = omega arith in sym (append-nil c) ∙ ap (λ (n : ℕ). c ++ replicate n 0) z
 
--- the payload was copied to the front of a packet's tail, and zeros were put behind it
-pub payload-put : (c tail t u : List ℕ) (m : ℕ) → length c ≤ 187 → length tail ≡ 187 → t ≡ c → m ≡ 187 - length c
-    → u ≡ replicate (length (midOf (length c) m (t ++ drop (length c) tail))) 0 → putMid (length c) m (t ++ drop (length c) tail) u ≡ padded c
-unfolding padded
-payload-put c tail t u m h l et em eu =
-    let z : List ℕ = drop (length c) tail in
-    let lz : length z ≡ 187 - length c = length-drop (length c) tail ∙ ap (λ (x : ℕ). x - length c) l in
-    let a : midOf (length c) m (t ++ z) ≡ z =
-    ap (λ (x : List ℕ). midOf (length c) m (x ++ z)) et ∙ ap (take m) (drop-at c z (length c) refl) ∙ take-all m z (omega arith) in
-    let b : drop m (drop (length c) (t ++ z)) ≡ [] =
-    ap (λ (x : List ℕ). drop m (drop (length c) (x ++ z))) et ∙ ap (drop m) (drop-at c z (length c) refl) ∙ drop-of-length-le z {i = m} (omega arith) in
-    ap₂ (λ (x y : List ℕ). x ++ y) (ap (λ (x : List ℕ). take (length c) (x ++ z)) et ∙ take-at c z (length c) refl)
-    (ap₂ (λ (x y : List ℕ). x ++ y) (eu ∙ ap (λ (x : List ℕ). replicate (length x) 0) a ∙ ap (λ (x : ℕ). replicate x 0) lz) b ∙ append-nil (replicate (187 - length c) 0))
+-- a front of n items and the part behind it were lent, and came back as t and u
+pub front-and-rest : (tail t u : List ℕ) (n k : ℕ) → length t ≡ n → length tail ≤ n + k → putMid n k (t ++ drop n tail) u ≡ t ++ u
+front-and-rest tail t u n k lt h =
+    let z : List ℕ = drop n tail in
+    let rest : drop k (drop n (t ++ z)) ≡ [] = ap (drop k) (drop-at t z n lt) ∙ drop-of-length-le z {i = k} (simp length-drop (omega arith)) in
+    ap₂ (λ (x y : List ℕ). x ++ (u ++ y)) (take-at t z n lt) rest ∙ ap (λ (x : List ℕ). t ++ x) (append-nil u)
 
--- the first byte was stored, and the tail lent behind it came back as the payload
-pub packet-put : (c p t : List ℕ) (n : ℕ) → length p ≡ 188 → n ≡ 187 → t ≡ padded c → putMid 1 n (set p 0 0x47) t ≡ packet c
-unfolding packet
-packet-put c [] t n l en et = absurd (omega arith)
-packet-put c (x ∷ p) t n l en et =
-    ap (λ (y : List ℕ). 0x47 ∷ y) (ap₂ (λ (y z : List ℕ). y ++ z) et (drop-of-length-le p {i = n} (omega arith)) ∙ append-nil (padded c))
+-- the payload was whitened to the front of a packet's tail, and the outputs behind it were put behind that
+pub tail-put : (c m tail t u : List ℕ) (k : ℕ) → length c ≤ 187 → length m ≡ 187 → length tail ≡ 187 → k ≡ 187 - length c
+    → t ≡ xored c (take (length c) m) → u ≡ drop (length c) m → putMid (length c) k (t ++ drop (length c) tail) u ≡ xored (padded c) m
+unfolding padded
+tail-put c m tail t u k h lm l ek et eu =
+    front-and-rest tail t u (length c) k (ap length et ∙ xored-length c (take (length c) m)) (omega arith)
+    ∙ ap₂ (λ (x y : List ℕ). x ++ y) et eu ∙ xored-filled c m (187 - length c) (omega arith)
 
 -- ---- taking apart what was packetized
 
@@ -113,7 +96,7 @@ padded-chunks (suc n) i s h =
 pub packetized-length : (s : List ℕ) → length (packetized s) ≡ 188 * count (length s)
 packetized-length s = chunks-length (λ (i : ℕ) (c : List ℕ). packet c) 187 188 (count (length s)) 0 s (packets-each (count (length s)) s)
 
--- what `ts_depacketize` writes of what `ts_packetize` wrote: the payload, then zeros
+-- what `ts_depacketize` writes of a payload's packets: the payload, then zeros
 pub taken-apart-is-payload : (s : List ℕ) → payloads (packetized s) ≡ s ++ replicate (187 * count (length s) - length s) 0
 unfolding packet
 taken-apart-is-payload s =

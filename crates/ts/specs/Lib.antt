@@ -1,3 +1,4 @@
 pub mod Packets
 pub mod Stuffing
 pub mod Dispersal
+pub mod PacketizeDispersed

@@ -25,7 +25,8 @@ packet c = 0x47 ∷ padded c
 abbrev pub packetized : List ℕ → List ℕ
 packetized payload = chunks (λ (i : ℕ) (c : List ℕ). packet c) 187 (count (length payload)) 0 payload
 
--- ---- packetizing a payload into a lent output: its number, the bytes written, and the output
+-- ---- packetizing a payload into a lent output: its number, the bytes written, and the output. No call is this alone:
+-- it is the first of the two steps that one call takes (document 02, E5)
 unfoldable pub packetizeNo : List ℕ → List ℕ → ℕ
 packetizeNo payload out = fillNo (188 * count (length payload)) out
 

@@ -3,7 +3,7 @@ ghost use mathlib.Core.Path.{_≡_};
 ghost use mathlib.Core.Bool.{cond};
 ghost use Prim.Native.Nat.{_/_, _%_, _<_};
 ghost use lib.Dec.{eqb};
-ghost use lib.ListN.{length, getD, set};
+ghost use lib.ListN.{length, set};
 ghost use Rattle.dispersal.specs.Register.{start};
 ghost use Rattle.dispersal.specs.Inner.{stream};
 ghost use Rattle.ts.specs.Dispersal.{sync, dispersedPacket, dispersed};
@@ -11,7 +11,7 @@ use super::TS_PACKET_LEN;
 use super::TS_PAYLOAD_LEN;
 
 // The packets of a group: at the first of them the register restarts.
-const TS_DISPERSAL_GROUP: usize = 8;
+pub(crate) const TS_DISPERSAL_GROUP: usize = 8;
 
 // What the first byte of the packet at a place in its group is XORed with.
 fn sync_mask(place: usize) -> u8
@@ -23,13 +23,13 @@ fn sync_mask(place: usize) -> u8
     0
 }
 
-// Flips the first byte of the packet at the first place of a group, and leaves the others'.
-fn put_sync(place: usize, packet: &mut [u8])
+// Puts the first byte of the packet at a place in its group, flipped at the first place.
+pub(crate) fn put_sync(place: usize, byte: u8, packet: &mut [u8])
     requires { ⌜ (place < 8) × (length (now packet) ≡ 188) ⌝ }
-    ensures { λ _. ⌜ now (packet .exit) ≡ set (now (packet .entry)) 0 (sync place (getD (now (packet .entry)) 0 0)) ⌝ }
+    ensures { λ _. ⌜ now (packet .exit) ≡ set (now (packet .entry)) 0 (sync place byte) ⌝ }
 {
     let mask = sync_mask(place);
-    packet[0] = packet[0] ^ mask;
+    packet[0] = byte ^ mask;
 }
 
 // Disperses the packet at a place in its group.
@@ -39,7 +39,8 @@ fn disperse_packet(place: usize, outputs: &[u8], packet: &mut [u8])
 {
     let from = TS_PACKET_LEN * place;
     let to = from + TS_PAYLOAD_LEN;
-    put_sync(place, packet);
+    let first = packet[0];
+    put_sync(place, first, packet);
     dispersal::inner::whiten(&outputs[from..to], &mut packet[1..]);
 }
 

@@ -1,14 +1,15 @@
 // Transport packets, null packets and stuffing, and energy dispersal over packets (EN 300 744, 4.3.1).
 ghost use mathlib.Core.Path.{_≡_};
-ghost use Prim.Native.Nat.{_+_, _-_, _/_, _%_, _^_, _<_, _≤_, min};
+ghost use Prim.Native.Nat.{_/_, _%_};
 ghost use lib.ListN.{length};
-ghost use Rattle.ts.specs.Packets.{count, padded, packet, packetizeAnswer, packetizeLeaves, depacketizeAnswer};
-ghost use Rattle.ts.specs.Packets.{depacketizeLeaves};
+ghost use Rattle.ts.specs.Packets.{count, depacketizeAnswer, depacketizeLeaves};
 ghost use Rattle.ts.specs.Stuffing.{null, nulls, stuffAnswer, stuffLeaves};
 ghost use Rattle.ts.specs.Dispersal.{disperseAnswer, disperseLeaves};
+ghost use Rattle.ts.specs.PacketizeDispersed.{packetizeDispersedAnswer, packetizeDispersedLeaves};
 use ground::Counted;
 
 mod dispersing;
+mod packetizing;
 
 // A packet's length in bytes.
 pub const TS_PACKET_LEN: usize = 188;
@@ -27,60 +28,20 @@ fn packets_for(len: usize) -> usize
     (len - 1) / TS_PAYLOAD_LEN + 1
 }
 
-// Where the part of a payload that begins at from ends.
-fn chunk_end(from: usize, len: usize) -> usize
-    requires { ⌜ from ≤ len ⌝ }
-    ensures { λ r. ⌜ r ≡ from + min 187 (len - from) ⌝ }
+// Makes whole packets of a payload, whitened, and answers the bytes written; OUTPUT SHORT where they don't fit.
+pub fn ts_packetize_dispersed(payload: &[u8], out: &mut [u8]) -> Counted
+    ensures answer { λ r. ⌜ r ≡ packetizeDispersedAnswer (now (payload .entry)) (now (out .entry)) ⌝ }
+    ensures output { λ _. ⌜ now (out .exit) ≡ packetizeDispersedLeaves (now (payload .entry)) (now (out .entry)) ⌝ }
 {
-    if len - from < TS_PAYLOAD_LEN {
-        return len;
-    }
-    from + TS_PAYLOAD_LEN
-}
-
-// Puts at most 187 bytes of payload behind a packet's first byte, and zeros behind them.
-fn put_payload(payload: &[u8], tail: &mut [u8])
-    requires { ⌜ (length (now payload) ≤ 187) × (length (now tail) ≡ 187) ⌝ }
-    ensures { λ _. ⌜ now (tail .exit) ≡ padded (now (payload .entry)) ⌝ }
-{
-    let len = payload.len();
-    if len == TS_PAYLOAD_LEN {
-        ground::inner::copy(payload, tail);
-        return;
-    }
-    ground::inner::copy(payload, &mut tail[..len]);
-    ground::inner::fill(&mut tail[len..], 0);
-}
-
-// Makes a packet of at most 187 bytes of payload.
-fn put_packet(payload: &[u8], out: &mut [u8])
-    requires { ⌜ (length (now payload) ≤ 187) × (length (now out) ≡ 188) ⌝ }
-    ensures { λ _. ⌜ now (out .exit) ≡ packet (now (payload .entry)) ⌝ }
-{
-    out[0] = TS_SYNC_BYTE;
-    put_payload(payload, &mut out[1..]);
-}
-
-// Makes whole packets of a payload and answers the bytes written; OUTPUT SHORT where they don't fit.
-pub fn ts_packetize(payload: &[u8], out: &mut [u8]) -> Counted
-    ensures answer { λ r. ⌜ r ≡ packetizeAnswer (now (payload .entry)) (now (out .entry)) ⌝ }
-    ensures output { λ _. ⌜ now (out .exit) ≡ packetizeLeaves (now (payload .entry)) (now (out .entry)) ⌝ }
-{
-    let len = payload.len();
-    let n = packets_for(len);
+    let n = packets_for(payload.len());
     if out.len() / TS_PACKET_LEN < n {
         return Counted::Refused(ground::OUTPUT_SHORT);
     }
-    let mut i = 0;
-    while i < n {
-        let from = TS_PAYLOAD_LEN * i;
-        let to = chunk_end(from, len);
-        let base = TS_PACKET_LEN * i;
-        let end = base + TS_PACKET_LEN;
-        put_packet(&payload[from..to], &mut out[base..end]);
-        i += 1;
-    }
-    Counted::Count(TS_PACKET_LEN * n)
+    let made = TS_PACKET_LEN * n;
+    let mut outputs = [0u8; 1504];
+    dispersal::inner::fill_outputs(&mut outputs);
+    packetizing::put_packets(&outputs, payload, &mut out[..made]);
+    Counted::Count(made)
 }
 
 // Takes whole packets apart and answers the bytes written; LENGTH for none or a ragged length, OUTPUT SHORT where the

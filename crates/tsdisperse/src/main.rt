@@ -1,9 +1,11 @@
-// tsdisperse: makes transport packets of its standard input, whitens them, and writes them to standard output.
+// tsdisperse: makes whitened transport packets of its standard input and writes them to standard output; with --back it
+// takes whitened packets and writes their payloads, filling zeros included.
 ghost use mathlib.Core.Path.{_≡_};
 ghost use Prim.Native.Nat.{_≤_};
 ghost use lib.ListN.{length};
 ghost use Rattle.io.specs.Counts.{Counts};
 use ground::Counted;
+use libc::STDERR_FILENO;
 use libc::STDIN_FILENO;
 use libc::STDOUT_FILENO;
 
@@ -11,6 +13,13 @@ use libc::STDOUT_FILENO;
 struct Filled {
     count: usize,
     failed: bool,
+}
+
+// What a part of the input came to: written, refused by the library, or not written.
+enum Came {
+    Written,
+    Refused,
+    Unwritten,
 }
 
 // What a turn left: go on, or stop.
@@ -33,21 +42,51 @@ fn packets_room() -> [u8; 48128]
     [0; 48128]
 }
 
-// Whitens packets from the beginning of a group on, writes them, and answers whether they were written.
-fn whiten_and_write(packets: &mut [u8]) -> bool {
-    ts::ts_energy_disperse(packets);
-    io::write_all(STDOUT_FILENO, packets)
+// Writes what a call left at the front of its output, and says what that came to.
+fn write_front(answer: Counted, out: &[u8]) -> Came {
+    let Counted::Count(n) = answer else {
+        return Came::Refused;
+    };
+    if n <= out.len() {
+        if io::write_all(STDOUT_FILENO, &out[..n]) {
+            return Came::Written;
+        }
+    }
+    Came::Unwritten
 }
 
-// Makes packets of a payload, whitens and writes them, and answers whether they were written.
-fn put(payload: &[u8], out: &mut [u8]) -> bool {
-    let Counted::Count(n) = ts::ts_packetize(payload, out) else {
-        return false;
-    };
-    if out.len() < n {
-        return false;
+// Writes the packets of a payload, whitened from the beginning of a group on.
+fn send(payload: &[u8], out: &mut [u8]) -> Came {
+    write_front(ts::ts_packetize_dispersed(payload, out), out)
+}
+
+// Writes the payloads of whitened packets that begin a group.
+fn take_back(packets: &mut [u8], out: &mut [u8]) -> Came {
+    ts::ts_energy_disperse(packets);
+    write_front(ts::ts_depacketize(packets, out), out)
+}
+
+// Sends a part of the input or takes it back.
+fn put(back: bool, part: &mut [u8], out: &mut [u8]) -> Came {
+    if back {
+        return take_back(part, out);
     }
-    whiten_and_write(&mut out[..n])
+    send(part, out)
+}
+
+// Says on standard error why a part wasn't written, and answers whether it was.
+fn is_written(came: Came) -> bool {
+    match came {
+        Came::Written => true,
+        Came::Refused => {
+            io::write_all(STDERR_FILENO, b"tsdisperse: input: not whole packets\n");
+            false
+        }
+        Came::Unwritten => {
+            os::fail(b"tsdisperse: output");
+            false
+        }
+    }
 }
 
 // Reads once, and counts what stands at the front of the buffer.
@@ -82,8 +121,8 @@ fn fill(input: &mut [u8]) -> Filled
     }
 }
 
-// Reads whole groups, or the input's last part, and writes their packets; an empty input makes one packet.
-fn turn(first: bool, input: &mut [u8], out: &mut [u8]) -> Next {
+// Reads whole groups, or the input's last part, and writes what becomes of them; an empty input is a part too.
+fn turn(back: bool, first: bool, input: &mut [u8], out: &mut [u8]) -> Next {
     let filled = fill(input);
     if filled.failed {
         os::fail(b"tsdisperse: input");
@@ -95,8 +134,7 @@ fn turn(first: bool, input: &mut [u8], out: &mut [u8]) -> Next {
             return Next::End;
         }
     }
-    if !put(&input[..n], out) {
-        os::fail(b"tsdisperse: output");
+    if !is_written(put(back, &mut input[..n], out)) {
         return Next::End;
     }
     if n < input.len() {
@@ -106,11 +144,11 @@ fn turn(first: bool, input: &mut [u8], out: &mut [u8]) -> Next {
 }
 
 // Goes on until the input ends; it counts its turns down from a number that no run uses up.
-fn run(input: &mut [u8], out: &mut [u8]) {
+fn run(back: bool, input: &mut [u8], out: &mut [u8]) {
     let mut turns = u64::MAX;
     let mut first = true;
     while turns > 0 {
-        let next = turn(first, input, out);
+        let next = turn(back, first, input, out);
         first = false;
         match next {
             Next::More => {
@@ -123,8 +161,29 @@ fn run(input: &mut [u8], out: &mut [u8]) {
     }
 }
 
+// Whether the program's one argument is --back.
+fn is_back() -> bool {
+    let mut word = [0u8; 8];
+    let n = os::arg(1, &mut word);
+    check::same(&word[..n], b"--back")
+}
+
 fn main() {
-    let mut input = payload_room();
-    let mut out = packets_room();
-    run(&mut input, &mut out);
+    let mut payload = payload_room();
+    let mut packets = packets_room();
+    let words = os::arg_count();
+    if words < 2 {
+        run(false, &mut payload, &mut packets);
+        return;
+    }
+    if words == 2 {
+        if is_back() {
+            run(true, &mut packets, &mut payload);
+            return;
+        }
+    }
+    io::write_all(
+        STDERR_FILENO,
+        b"usage: tsdisperse [--back] < input > output\n",
+    );
 }

@@ -1,8 +1,6 @@
 -- `ts::dispersing::put_sync` meets its contract: the mask flips the byte or leaves it. Assumes nothing.
 use mathlib.Core.Path.{ap}
-use Prim.Native.Nat.{_-_}
-use native.Mathlib.Omega.{arith}
-use lib.ListN.{getD, set}
+use lib.ListN.{set}
 use Rattle.ts.proofs.Dispersal.{sync-put}
 use borrow.Author.Needs.{needs}
 use Rattle.ts.proofs.dispersing.put_sync.Statement.{statement}
@@ -11,9 +9,6 @@ use Rattle.ts.proofs.dispersing.put_sync.Tie as tie
 sync-mask-requires : tie.Need-sync-mask-requires
 sync-mask-requires c κs = search needs
 
-slice-read-packet : tie.Need-slice-read-packet
-slice-read-packet c = search needs
-
 slice-write-packet : tie.Need-slice-write-packet
 slice-write-packet c = search needs
 
@@ -21,9 +16,7 @@ same-length : tie.Need-same-length
 same-length c = search needs
 
 returns : tie.Need-returns
-returns c = let a = c .before .before .before in ap (set (a .args .packet .now) 0) (sync-put (a .args .place) (getD (a .args .packet .now) 0 0) (c .before .sync-mask .result) (a .pre .0) (c .before .sync-mask .ensures))
+returns c = let a = c .before .before in ap (set (a .args .packet .now) 0) (sync-put (a .args .place) (a .args .byte) (c .sync-mask .result) (a .pre .0) (c .sync-mask .ensures))
 
 pub put-sync-spec : {M : Type 1} → statement M
-put-sync-spec =
-    tie.close
-    (tie.spec sync-mask-requires slice-read-packet slice-write-packet same-length returns)
+put-sync-spec = tie.close (tie.spec sync-mask-requires slice-write-packet same-length returns)
