@@ -48,7 +48,8 @@ enum {
     SALT_INCOMPLETE = 8,   /* a word is asked for with fewer than 68 */
     SALT_BAD_LINE = 9,     /* the report's input line isn't 17 digits from 0-9 and a-f */
     SALT_OUT_OF_STEP = 10, /* a word that the desk takes hasn't the number that is wanted */
-    SALT_MISMATCH = 11     /* a word that the desk takes differs from those gathered */
+    SALT_MISMATCH = 11,    /* a word that the desk takes differs from those gathered */
+    SALT_RETIRED = 12      /* mapping onto the static grid, which is retired */
 };
 
 /* ---- Sizes */
@@ -384,9 +385,9 @@ SaltExtractAnswer salt_scattered_pilot_extractor_extract_symbol(SaltScatteredPil
                                                                 size_t out_length);
 
 /*
- * Makes a symbol of the static grid: 1,660 data cells, and boosted pilots on the 45 continual carriers. Answers 2,048,
- * the cells written.
- * Refusals: 1 LENGTH (fewer than 3,320 floats of cells), 3 OUTPUT SHORT (room for fewer than 4,096 floats).
+ * Mapping onto the static grid is retired: nothing is written. Symbols made before it was are read by
+ * salt_grid_extract.
+ * Refusals: 1 LENGTH (fewer than 3,320 floats of cells), 12 RETIRED (any other cells, and any symbol).
  */
 SaltCounted salt_grid_map(const float *cells, size_t cells_length, float *symbol, size_t symbol_length);
 

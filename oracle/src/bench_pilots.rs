@@ -5,7 +5,7 @@ use crate::call;
 use crate::random::Random;
 use num_complex::Complex32;
 use orion_sdr::core::Block;
-use orion_sdr::multicarrier::{CarrierGrid, GridExtract, GridMap};
+use orion_sdr::multicarrier::{CarrierGrid, GridExtract};
 use orion_sdr::waveform::dvb_t::{GuardInterval, ScatteredPilotExtractor, ScatteredPilotMapper, dvb_t_2k_plan};
 use std::hint::black_box;
 
@@ -22,7 +22,7 @@ const GUARD: GuardInterval = GuardInterval::G1_32;
 
 /// The rows that count symbols, in thousands a second.
 pub fn rows() -> Vec<Row> {
-    vec![map_symbol(), extract_symbol(), grid_map(), grid_extract()]
+    vec![map_symbol(), extract_symbol(), grid_extract()]
 }
 
 /// A row over calls that each write so many cells, done for `SYMBOLS` symbols in an action.
@@ -55,18 +55,6 @@ fn extract_symbol() -> Row {
     let (mut theirs, mut ours) = (ScatteredPilotExtractor::new(GUARD), call::scattered_pilot_extractor_new());
     let orion = move || theirs.extract_symbol(black_box(&their_symbol), black_box(&mut their_data));
     row("extract_symbol", DATA, orion, move || ours = call::scattered_pilot_extractor_extract_symbol(ours, black_box(&our_symbol), black_box(&mut our_data)).extractor)
-}
-
-/// Mapping of the static grid.
-fn grid_map() -> Row {
-    let ((their_data, our_data), (mut their_symbol, mut our_symbol)) = (some_cells(STATIC_DATA), some_cells(SYMBOL));
-    let mut theirs = GridMap::new(CarrierGrid::from_plan(&dvb_t_2k_plan(GUARD)));
-    let orion = move || {
-        black_box(theirs.process(black_box(&their_data), black_box(&mut their_symbol)));
-    };
-    row("GridMap::process", SYMBOL, orion, move || {
-        black_box(call::grid_map(black_box(&our_data), black_box(&mut our_symbol)));
-    })
 }
 
 /// Extraction of the static grid.

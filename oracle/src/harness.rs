@@ -37,7 +37,7 @@ pub type Cases<Case> = fn(&mut Random, &mut dyn FnMut(Case));
 pub trait Subject {
     /// One input, with all the memory that is lent.
     type Case;
-    /// Whether orion-sdr has such a function, or one that it is made of; document 01 says all answers where it hasn't.
+    /// Whether orion-sdr is asked, for such a function or one that it is made of; the documents say all answers where it isn't.
     fn in_orion(&self) -> bool {
         true
     }
@@ -114,7 +114,7 @@ impl Run {
         }
         assert!(by_orion > 0 || !subject.in_orion() && by_document > 0, "no case of {name} was compared with orion-sdr");
         match (by_orion, by_document) {
-            (0, _) => println!("{by_document} held against document 01, and orion-sdr has none: equal"),
+            (0, _) => println!("{by_document} held against the documents, orion-sdr not asked: equal"),
             (_, 0) => println!("{by_orion} compared with orion-sdr: equal"),
             _ => println!("{by_orion} compared with orion-sdr, {by_document} refusals, by document 01: equal"),
         }

@@ -11,3 +11,4 @@ pub const INCOMPLETE: u8 = 8;
 pub const BAD_LINE: u8 = 9;
 pub const OUT_OF_STEP: u8 = 10;
 pub const MISMATCH: u8 = 11;
+pub const RETIRED: u8 = 12;

@@ -8,7 +8,7 @@ use crate::harness::{Expected, Run, Subject};
 use crate::lent::{EMPTY, Lent, Room, UNTOUCHED, surroundings};
 use crate::pilots::phases;
 use crate::random::Random;
-use crate::refusals::{LENGTH, OUTPUT_SHORT};
+use crate::refusals::{LENGTH, OUTPUT_SHORT, RETIRED};
 use crate::sys::{SaltCounted, SaltScatteredPilotExtractor, SaltScatteredPilotMapper};
 use crate::{call, shrink};
 use num_complex::Complex32;
@@ -34,8 +34,9 @@ pub fn compare(run: &mut Run) {
     run.compare("ScatteredPilotExtractor::new", Cycle::new(&EXTRACTOR, new_cases));
     run.compare("ScatteredPilotExtractor::extract_symbol", Cycle::new(&EXTRACTOR, symbol_cases));
     run.compare("ScatteredPilotExtractor::reset", Cycle::new(&EXTRACTOR, reset_cases));
-    run.compare("GridMap::process", Static::new(&GRID_MAP, call::grid_map, |grid| Box::new(GridMap::new(grid))));
+    run.compare("GridMap::process", Retired);
     run.compare("GridExtract::process", Static::new(&GRID_EXTRACT, call::grid_extract, |grid| Box::new(GridExtract::new(grid))));
+    run.compare("GridExtract::process, of GridMap's symbols", Kept);
 }
 
 /// What a call reads and writes, with the floats that it needs of each.
@@ -479,5 +480,86 @@ impl Subject for Static {
 
     fn show(&self, case: &Single) -> String {
         format!("{}; orion-sdr's guard {:?}", case.call.show(self.shape), GUARDS[case.guard])
+    }
+}
+
+/// Mapping onto the static grid, which is refused whatever is lent.
+struct Retired;
+
+impl Subject for Retired {
+    type Case = Call;
+
+    /// Document 02 retired it, so orion-sdr's isn't asked.
+    fn in_orion(&self) -> bool {
+        false
+    }
+
+    /// Symbols that orion-sdr would make, and calls in all rooms.
+    fn each_case(&self, random: &mut Random, compare: &mut dyn FnMut(Call)) {
+        for _ in 0..SYMBOLS / 10 {
+            compare(Call::accepted(random, &GRID_MAP));
+        }
+        for input in every_room(random) {
+            for output in every_room(random) {
+                compare(Call::some(random, &GRID_MAP, input, output));
+            }
+        }
+    }
+
+    fn ours(&self, case: &Call) -> Answer {
+        let (answer, output, found) = case.lent(&GRID_MAP, call::grid_map);
+        with_output(Answer::counted(answer.number, answer.count), "", &GRID_MAP, answer.number, &output).surroundings(&found)
+    }
+
+    /// LENGTH, else RETIRED, which goes before OUTPUT SHORT; the symbol stays as it is.
+    fn expected(&self, case: &Call) -> Expected {
+        let number = if case.input.len() < GRID_MAP.input { LENGTH } else { RETIRED };
+        Expected::document(with_output(Answer::counted(number, 0), "", &GRID_MAP, number, &case.output).surroundings(UNTOUCHED))
+    }
+
+    fn smaller<'a>(&'a self, case: &'a Call) -> Box<dyn Iterator<Item = Call> + 'a> {
+        Box::new(case.smaller(&GRID_MAP))
+    }
+
+    fn show(&self, case: &Call) -> String {
+        case.show(&GRID_MAP)
+    }
+}
+
+/// Static symbols that were kept: orion-sdr's GridMap made them, and the port reads their data back.
+struct Kept;
+
+impl Subject for Kept {
+    type Case = Single;
+
+    /// Data of all kinds.
+    fn each_case(&self, random: &mut Random, compare: &mut dyn FnMut(Single)) {
+        for _ in 0..SYMBOLS / 10 {
+            let call = Call::some(random, &GRID_MAP, Room::Exact, Room::Exact);
+            compare(Single { guard: random.below(GUARDS.len()), call });
+        }
+    }
+
+    /// The data that are read out of orion-sdr's symbol.
+    fn ours(&self, case: &Single) -> Answer {
+        let mut theirs = GridMap::new(CarrierGrid::from_plan(&dvb_t_2k_plan(GUARDS[case.guard])));
+        let symbol = case.call.on_cells(|input, output| drop(theirs.process(input, output)));
+        let read = Call { input: symbol, output: vec![0.0; STATIC_DATA] };
+        let (answer, output, found) = read.lent(&GRID_EXTRACT, call::grid_extract);
+        with_output(Answer::counted(answer.number, answer.count), "", &GRID_EXTRACT, answer.number, &output).surroundings(&found)
+    }
+
+    /// The data that orion-sdr was given.
+    fn expected(&self, case: &Single) -> Expected {
+        let count = Answer::counted(0, STATIC_DATA / 2);
+        Expected::orion(with_output(count, "", &GRID_EXTRACT, 0, &case.call.input).surroundings(UNTOUCHED))
+    }
+
+    fn smaller<'a>(&'a self, case: &'a Single) -> Box<dyn Iterator<Item = Single> + 'a> {
+        Box::new(plainer(&case.call.input).map(|input| Single { guard: case.guard, call: Call { input, ..case.call.clone() } }))
+    }
+
+    fn show(&self, case: &Single) -> String {
+        format!("{}; orion-sdr's guard {:?}", case.call.show(&GRID_MAP), GUARDS[case.guard])
     }
 }

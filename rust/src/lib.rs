@@ -33,7 +33,8 @@
 //! | [`ts_stuff_null_packets`] refuses ragged bytes | asserts in debug, appends in release |
 //! | [`map_symbol`], [`extract_symbol`], [`next_symbol`] and [`feed_symbol`] give a `Result`; the last tells the bit | `()` or cells |
 //! | [`ConstellationOrder`] has three cases | and BPSK and 256-QAM |
-//! | [`GridMap`] and [`GridExtract`] are those of the 2K plan with continual pilots alone; `process` is their own | any `CarrierGrid`; `process` is a trait's |
+//! | [`GridExtract`] is that of the 2K plan with continual pilots alone; `process` is its own | any `CarrierGrid`; `process` is a trait's |
+//! | [`GridMap`] is retired, and refuses every call | maps |
 //! | a 69th symbol is refused | collected |
 //! | `TpsWord::pack` writes 000 in s33 to s35, as the standard has it without hierarchy | the rate again |
 //! | [`tps_bch_decode_mended`], [`unpack_mended`] and [`word_mended`] tell which bits were mended, too | not told |

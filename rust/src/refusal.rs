@@ -3,7 +3,7 @@
 use crate::sys::*;
 use std::fmt;
 
-/// Why a call was refused, by document 01's or 02's name and number.
+/// Why a call was refused, by document 01's or 02's name and number. A later request may add one.
 ///
 /// A refused call changes nothing: neither a lent slice nor the state it was made on. [`OutOfStep`](Self::OutOfStep) and
 /// [`Mismatch`](Self::Mismatch) alone change the desk that gives them.
@@ -43,6 +43,8 @@ pub enum Refusal {
     OutOfStep = SALT_OUT_OF_STEP,
     /// A word that the desk takes differs from those gathered.
     Mismatch = SALT_MISMATCH,
+    /// Mapping onto the static grid, which is retired.
+    Retired = SALT_RETIRED,
 }
 
 impl Refusal {
@@ -59,6 +61,7 @@ impl Refusal {
         Refusal::BadLine,
         Refusal::OutOfStep,
         Refusal::Mismatch,
+        Refusal::Retired,
     ];
 
     /// The documents' number, from 1 on.
@@ -80,6 +83,7 @@ impl Refusal {
             Refusal::BadLine => "BAD LINE",
             Refusal::OutOfStep => "OUT OF STEP",
             Refusal::Mismatch => "MISMATCH",
+            Refusal::Retired => "RETIRED",
         }
     }
 

@@ -155,18 +155,16 @@ pub fn static_data_bins_into(out: &mut [Bin]) -> Result<usize, Refusal> {
     count_of(call::static_data_bins(bins_mut(out)))
 }
 
-/// Makes symbols of the static grid: 1,660 data cells, and boosted pilots on the continual carriers alone.
+/// Made symbols of the static grid, and is retired: every call is refused. Symbols made before are read by [`GridExtract`].
 ///
 /// ```
-/// use saltkernel::multicarrier::{GridExtract, GridMap};
+/// use saltkernel::multicarrier::GridMap;
 /// use saltkernel::{Complex32, Refusal};
 ///
-/// let data = vec![Complex32::new(0.5, 0.25); 1660];
-/// let (mut symbol, mut back) = (vec![Complex32::default(); 2048], vec![Complex32::default(); 1660]);
-/// assert_eq!(GridMap::new().process(&data, &mut symbol)?.out_written, 2048);
-/// assert_eq!(GridExtract::new().process(&symbol, &mut back)?.out_written, 1660);
-/// assert_eq!(back, data);
-/// # Ok::<(), Refusal>(())
+/// let (data, mut symbol) = (vec![Complex32::new(0.5, 0.25); 1660], vec![Complex32::default(); 2048]);
+/// assert_eq!(GridMap::new().process(&data, &mut symbol), Err(Refusal::Retired));
+/// assert_eq!(GridMap::new().process(&data[1..], &mut symbol), Err(Refusal::Length));
+/// assert_eq!(symbol, vec![Complex32::default(); 2048]);
 /// ```
 #[derive(Clone, Copy, Debug, Default)]
 pub struct GridMap;
@@ -187,14 +185,26 @@ impl GridMap {
         DVB_T_N_FFT
     }
 
-    /// Makes a symbol. Refusals: [`Refusal::Length`] for fewer than 1,660 data cells, then [`Refusal::OutputShort`].
+    /// Is refused, and leaves the output as it is: [`Refusal::Length`] for fewer than 1,660 data cells, else [`Refusal::Retired`].
     pub fn process(&mut self, input: &[Complex32], output: &mut [Complex32]) -> Result<WorkReport, Refusal> {
         let out_written = count_of(call::grid_map(floats(input), floats_mut(output)))?;
         Ok(WorkReport { in_read: STATIC_DATA_CARRIERS, out_written })
     }
 }
 
-/// Reads symbols of the static grid.
+/// Reads symbols of the static grid: 1,660 data cells, and boosted pilots on the continual carriers alone.
+///
+/// ```
+/// use saltkernel::multicarrier::{static_data_bins, GridExtract};
+/// use saltkernel::{Complex32, Refusal};
+///
+/// let (mut symbol, mut back) = (vec![Complex32::default(); 2048], vec![Complex32::default(); 1660]);
+/// let last = static_data_bins()[1659];
+/// symbol[usize::from(last)] = Complex32::new(0.5, 0.25);
+/// assert_eq!(GridExtract::new().process(&symbol, &mut back)?.out_written, 1660);
+/// assert_eq!(back[1659], Complex32::new(0.5, 0.25));
+/// # Ok::<(), Refusal>(())
+/// ```
 #[derive(Clone, Copy, Debug, Default)]
 pub struct GridExtract;
 

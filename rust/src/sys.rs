@@ -14,6 +14,7 @@ pub const SALT_INCOMPLETE: u8 = 8;
 pub const SALT_BAD_LINE: u8 = 9;
 pub const SALT_OUT_OF_STEP: u8 = 10;
 pub const SALT_MISMATCH: u8 = 11;
+pub const SALT_RETIRED: u8 = 12;
 
 // ---- Sizes
 

@@ -32,13 +32,13 @@ const WORD: TpsWord =
 
 #[test]
 fn refusals_have_their_numbers_and_names() {
-    let names = ["LENGTH", "NOT A BIT", "OUTPUT SHORT", "NO WORD", "RESERVED", "FULL", "EMPTY", "INCOMPLETE", "BAD LINE", "OUT OF STEP", "MISMATCH"];
+    let names = ["LENGTH", "NOT A BIT", "OUTPUT SHORT", "NO WORD", "RESERVED", "FULL", "EMPTY", "INCOMPLETE", "BAD LINE", "OUT OF STEP", "MISMATCH", "RETIRED"];
     assert_eq!(Refusal::ALL.len(), names.len());
     for (refusal, (number, name)) in Refusal::ALL.iter().copied().zip((1..).zip(names)) {
         assert_eq!((refusal.number(), refusal.to_string().as_str()), (number, name));
         assert_eq!(Refusal::from_number(number), Some(refusal));
     }
-    assert_eq!((Refusal::from_number(0), Refusal::from_number(12)), (None, None));
+    assert_eq!((Refusal::from_number(0), Refusal::from_number(13)), (None, None));
 }
 
 #[test]
@@ -195,15 +195,18 @@ fn symbols_come_back_in_every_phase() {
 }
 
 #[test]
-fn static_symbols_come_back() {
-    let (data, mut symbol, mut back) = (cells(1660), vec![ZERO; 2048], vec![ZERO; 1660]);
-    assert_eq!(GridMap::new().process(&data, &mut symbol), Ok(WorkReport { in_read: 1660, out_written: 2048 }));
+fn static_symbols_are_read_and_no_more_made() {
+    let (data, mut symbol, mut back) = (cells(1660), cells(2048), vec![ZERO; 1660]);
     for (k, bin) in static_data_bins().into_iter().enumerate() {
-        assert_eq!(symbol[usize::from(bin)], data[k]);
+        symbol[usize::from(bin)] = data[k];
     }
     assert_eq!(GridExtract::new().process(&symbol, &mut back), Ok(WorkReport { in_read: 2048, out_written: 1660 }));
     assert_eq!(back, data);
+    let before = symbol.clone();
+    assert_eq!(GridMap::new().process(&data, &mut symbol), Err(Refusal::Retired));
+    assert_eq!(GridMap::new().process(&data, &mut symbol[..2047]), Err(Refusal::Retired));
     assert_eq!(GridMap::new().process(&data[1..], &mut symbol), Err(Refusal::Length));
+    assert_eq!(symbol, before);
     assert_eq!(GridExtract::new().process(&symbol, &mut back[1..]), Err(Refusal::OutputShort));
     assert_eq!(static_data_bins_into(&mut []), Err(Refusal::OutputShort));
 }

@@ -26,11 +26,13 @@ typedef struct Function {
 
 #define AT(i) lent[i].at, lent[i].length
 
-/* Owed of an input of one length, of an input that may be longer, of an output, of an input that needs more output, and where no length is refused. */
+/* Owed of an input of one length, of an input that may be longer, of an output, of an input that needs more output, of an input and an output of what is retired, and where no length is refused. */
 #define ONE_LENGTH {SALT_LENGTH, SALT_LENGTH, SALT_LENGTH, SALT_ACCEPTED, SALT_LENGTH}
 #define AT_LEAST {SALT_LENGTH, SALT_LENGTH, SALT_LENGTH, SALT_ACCEPTED, SALT_ACCEPTED}
 #define OUTPUT {SALT_OUTPUT_SHORT, SALT_OUTPUT_SHORT, SALT_OUTPUT_SHORT, SALT_ACCEPTED, SALT_ACCEPTED}
 #define GROWS {SALT_ACCEPTED, SALT_ACCEPTED, SALT_ACCEPTED, SALT_ACCEPTED, SALT_OUTPUT_SHORT}
+#define NO_MORE {SALT_LENGTH, SALT_LENGTH, SALT_LENGTH, SALT_RETIRED, SALT_RETIRED}
+#define IN_VAIN {SALT_RETIRED, SALT_RETIRED, SALT_RETIRED, SALT_RETIRED, SALT_RETIRED}
 #define ANY {SALT_ACCEPTED, SALT_ACCEPTED, SALT_ACCEPTED, SALT_ACCEPTED, SALT_ACCEPTED}
 
 static const SaltCell cell = {0.25f, -0.25f};
@@ -133,7 +135,7 @@ static const Function functions[] = {
     {"ScatteredPilotExtractor::data_bins", data_of, {{2, SALT_DATA_CELLS, FRONT, OUTPUT}}},
     {"ScatteredPilotExtractor::current_pilot_bins", pilots_of, {{2, SALT_REFERENCE_PILOTS, FRONT, OUTPUT}, {4, SALT_REFERENCE_FLOATS, FRONT, OUTPUT}}},
     {"ScatteredPilotExtractor::extract_symbol", extract_symbol, {{4, SALT_SYMBOL_FLOATS, READ, AT_LEAST}, {4, SALT_DATA_FLOATS, FRONT, OUTPUT}}},
-    {"grid_map", grid_map, {{4, SALT_STATIC_DATA_FLOATS, READ, AT_LEAST}, {4, SALT_SYMBOL_FLOATS, FRONT, OUTPUT}}},
+    {"grid_map", grid_map, {{4, SALT_STATIC_DATA_FLOATS, READ, NO_MORE}, {4, SALT_SYMBOL_FLOATS, FRONT, IN_VAIN}}},
     {"grid_extract", grid_extract, {{4, SALT_SYMBOL_FLOATS, READ, AT_LEAST}, {4, SALT_STATIC_DATA_FLOATS, FRONT, OUTPUT}}},
     {"tps_bch_encode", encode, {{1, SALT_TPS_INFORMATION_BITS, READ, ONE_LENGTH}, {1, SALT_TPS_CODEWORD_BITS, FRONT, OUTPUT}}},
     {"tps_bch_decode", decode, {{1, SALT_TPS_CODEWORD_BITS, READ, ONE_LENGTH}, {1, SALT_TPS_INFORMATION_BITS, FRONT, OUTPUT}}},

@@ -1,15 +1,16 @@
 -- Two results that meet the promise of a call are equal, for each public call; and each refusal is given exactly where
 -- document 01 says. For any mode. Assumes nothing.
-use mathlib.Core.Path.{_≡_}
-use mathlib.Core.Logic.{_↔_}
+use mathlib.Core.Path.{_≡_, refl}
+use mathlib.Core.Bool.{Bool, true, false}
+use mathlib.Core.Logic.{_↔_, _⊎_, inl, inr}
 use mathlib.Core.List.{List, [], _∷_}
 use Prim.Native.Nat.{ℕ, _*_, _<_, _≤_}
 use lib.Ieee.{Float}
 use lib.ListN.{length}
 use Rattle.ground.specs.Answer.{short}
-use Rattle.ground.specs.Refusal.{LENGTH, OUTPUT-SHORT, _gives_}
+use Rattle.ground.specs.Refusal.{LENGTH, OUTPUT-SHORT, RETIRED, _gives_, firstOf}
 use Rattle.ground.proofs.Answers.{OneAnswer, one-answer, OneResult, one-result}
-use Rattle.ground.proofs.Exactly.{less-decides, given-here, given-behind, fill-short-exactly}
+use Rattle.ground.proofs.Exactly.{less-decides, given-here, given-behind, given-otherwise, fill-short-exactly}
 use Rattle.carriers.specs.Mode.{Mode}
 use Rattle.grid.specs.declared.ScatteredPilotMapper.{ScatteredPilotMapper}
 use Rattle.grid.specs.declared.ScatteredPilotExtractor.{ScatteredPilotExtractor}
@@ -21,8 +22,8 @@ use Rattle.grid.specs.Calls.{
   mapLeaves,
   extractAnswer,
   extractLeaves,
+  gridMapNo,
   gridMapAnswer,
-  gridMapLeaves,
   gridExtractAnswer,
   gridExtractLeaves,
 }
@@ -37,6 +38,10 @@ extractor-determined = one-answer (record { phase = 0 })
 pub phase-determined : (p : ℕ) → OneAnswer (phaseOf p)
 phase-determined p = one-answer (phaseOf p)
 
+length-or-retired : (t : Bool) → let number = firstOf (t gives LENGTH ∷ true gives RETIRED ∷ []) in (number ≡ LENGTH) ⊎ (number ≡ RETIRED)
+length-or-retired true = inl refl
+length-or-retired false = inr refl
+
 module _ (m : Mode) (d o : List Float) where
   pub map-determined : (s : ScatteredPilotMapper) → OneResult (mapAnswer m s d o) (mapLeaves m (phaseOf (s .phase)) d o)
   map-determined s = one-result (mapAnswer m s d o) (mapLeaves m (phaseOf (s .phase)) d o)
@@ -44,13 +49,24 @@ module _ (m : Mode) (d o : List Float) where
   pub extract-determined : (s : ScatteredPilotExtractor) → OneResult (extractAnswer m s d o) (extractLeaves m (phaseOf (s .phase)) d o)
   extract-determined s = one-result (extractAnswer m s d o) (extractLeaves m (phaseOf (s .phase)) d o)
 
-  pub grid-map-determined : OneResult (gridMapAnswer m d o) (gridMapLeaves m d o)
-  grid-map-determined = one-result (gridMapAnswer m d o) (gridMapLeaves m d o)
+  pub grid-map-determined : OneResult (gridMapAnswer m d) o
+  grid-map-determined = one-result (gridMapAnswer m d) o
 
   pub grid-extract-determined : OneResult (gridExtractAnswer m d o) (gridExtractLeaves m d o)
   grid-extract-determined = one-result (gridExtractAnswer m d o) (gridExtractLeaves m d o)
 
-  -- ---- refusals, of mapping and of extracting n data cells: those of a phase, and those of the static grid
+  -- ---- refusals, of mapping onto the static grid, which is never accepted
+
+  pub grid-map-length-exactly : (gridMapNo m d ≡ LENGTH) ↔ (length d < 2 * m .staticCount)
+  grid-map-length-exactly = given-here LENGTH (true gives RETIRED ∷ []) (less-decides (length d) (2 * m .staticCount)) tt
+
+  pub grid-map-retired-exactly : (gridMapNo m d ≡ RETIRED) ↔ (2 * m .staticCount ≤ length d)
+  grid-map-retired-exactly = given-otherwise LENGTH RETIRED (true gives RETIRED ∷ []) (less-decides (length d) (2 * m .staticCount)) tt refl
+
+  pub grid-map-always-refused : (gridMapNo m d ≡ LENGTH) ⊎ (gridMapNo m d ≡ RETIRED)
+  grid-map-always-refused = length-or-retired (short (2 * m .staticCount) d)
+
+  -- ---- refusals, of mapping n data cells of a phase, and of extracting n: those of a phase and of the static grid
 
   module _ (n : ℕ) where
     pub map-length-exactly : (mapNo m n d o ≡ LENGTH) ↔ (length d < 2 * n)

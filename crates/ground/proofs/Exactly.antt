@@ -85,10 +85,15 @@ pub given-behind : {test : Bool} {P Q R : Type 0} (k n : ℕ) (tests : List Test
 given-behind {test = true} k n tests d l r = (λ e. absurd (apart n k l e), λ p. absurd (true≢false (d .fails .1 (p .0))))
 given-behind {test = false} k n tests d l r = (λ e. (d .fails .0 refl, r (d .fails .0 refl) .0 e), λ p. r (p .0) .1 (p .1))
 
+-- a number that the others give in any case: exactly where the first test fails
+pub given-otherwise : {test : Bool} {P Q : Type 0} (k n : ℕ) (tests : List Test) → Decides test P Q → T (not (eqb n k)) → firstOf tests ≡ n
+    → (firstOf ((test gives k) ∷ tests) ≡ n) ↔ Q
+given-otherwise {test = true} k n tests d l r = (λ e. absurd (apart n k l e), λ q. absurd (true≢false (d .fails .1 q)))
+given-otherwise {test = false} k n tests d l r = (λ e. d .fails .0 refl, λ q. r)
+
 -- the last test, where no number is given
 pub accepted-last : {test : Bool} {P Q : Type 0} (k : ℕ) → Decides test P Q → T (not (eqb ACCEPTED k)) → (firstOf ((test gives k) ∷ []) ≡ ACCEPTED) ↔ Q
-accepted-last {test = true} k d l = (λ e. absurd (apart ACCEPTED k l e), λ q. absurd (true≢false (d .fails .1 q)))
-accepted-last {test = false} k d l = (λ e. d .fails .0 refl, λ q. refl)
+accepted-last k d l = given-otherwise k ACCEPTED [] d l refl
 
 -- an answer that says a call's number says n exactly where that is n
 pub said-exactly : {P : Type 0} {said no n : ℕ} → said ≡ no → (no ≡ n) ↔ P → (said ≡ n) ↔ P

@@ -5,7 +5,7 @@ ghost use Rattle.carriers.specs.Mode.{mode2k};
 ghost use Rattle.carriers.specs.Carriers.{dataBins};
 ghost use Rattle.carriers.specs.Answers.{referenceAnswer, referenceBinsLeaves, referenceValuesLeaves};
 ghost use Rattle.grid.specs.Calls.{phaseOf, mapAnswer, mapLeaves, extractAnswer, extractLeaves, gridMapAnswer};
-ghost use Rattle.grid.specs.Calls.{gridMapLeaves, gridExtractAnswer, gridExtractLeaves};
+ghost use Rattle.grid.specs.Calls.{gridExtractAnswer, gridExtractLeaves};
 ghost use Rattle.saltkernel.specs.Numbers.{Says};
 ghost use Rattle.saltkernel.specs.Grid.{mapperOf, extractorOf, SaysMapped, SaysExtracted};
 use super::SaltCounted;
@@ -206,13 +206,13 @@ pub extern "C" fn salt_scattered_pilot_extractor_extract_symbol(
     }.extract_symbol(symbol, out))
 }
 
-// Makes a symbol of the static grid: 1,660 data cells, and boosted pilots on the 45 continual carriers. Answers 2,048,
-// the cells written.
-// Refusals: 1 LENGTH (fewer than 3,320 floats of cells), 3 OUTPUT SHORT (room for fewer than 4,096 floats).
+// Mapping onto the static grid is retired: nothing is written. Symbols made before it was are read by
+// salt_grid_extract.
+// Refusals: 1 LENGTH (fewer than 3,320 floats of cells), 12 RETIRED (any other cells, and any symbol).
 #[no_mangle]
 pub extern "C" fn salt_grid_map(cells: &[f32], symbol: &mut [f32]) -> SaltCounted
-    ensures answer { λ r. ⌜ Says r (gridMapAnswer mode2k (now (cells .entry)) (now (symbol .entry))) ⌝ }
-    ensures symbol { λ _. ⌜ now (symbol .exit) ≡ gridMapLeaves mode2k (now (cells .entry)) (now (symbol .entry)) ⌝ }
+    ensures answer { λ r. ⌜ Says r (gridMapAnswer mode2k (now (cells .entry))) ⌝ }
+    ensures symbol { λ _. ⌜ now (symbol .exit) ≡ now (symbol .entry) ⌝ }
 {
     numbers_of(grid::grid_map(cells, symbol))
 }
