@@ -397,6 +397,22 @@ SaltCounted salt_grid_map(const float *cells, size_t cells_length, float *symbol
  */
 SaltCounted salt_grid_extract(const float *symbol, size_t symbol_length, float *out, size_t out_length);
 
+/* ---- The symbol interleaver (4.3.4.2) */
+
+/*
+ * Interleaves the 1,512 data cells of a symbol. Of the symbol's number only even and odd count: in even symbols cell q
+ * is written at place H(q), in odd ones the cell at place H(q) is written at q. Answers 1,512, the cells written.
+ * Refusals: 1 LENGTH (fewer than 3,024 floats of cells), 3 OUTPUT SHORT (room for fewer than 3,024 floats).
+ */
+SaltCounted salt_interleave(size_t symbol, const float *cells, size_t cells_length, float *out, size_t out_length);
+
+/*
+ * Undoes what salt_interleave did to the 1,512 data cells of a symbol with this number. Answers 1,512, the cells
+ * written.
+ * Refusals: 1 LENGTH (fewer than 3,024 floats of cells), 3 OUTPUT SHORT (room for fewer than 3,024 floats).
+ */
+SaltCounted salt_deinterleave(size_t symbol, const float *cells, size_t cells_length, float *out, size_t out_length);
+
 /* ---- The code of the TPS words (4.6.2.11) */
 
 /* A count of information bits and the bits that were changed, or a refusal's number, the counts 0 and no place. */
@@ -745,9 +761,9 @@ SaltCounted salt_reader_close_slow(SaltReader reader, uint8_t *out, size_t out_l
  */
 
 /* The number of the layout. */
-uint32_t salt_layout_987d5bc8(void);
+uint32_t salt_layout_1236aa04(void);
 
-#define SALT_LAYOUT salt_layout_987d5bc8
+#define SALT_LAYOUT salt_layout_1236aa04
 
 #ifdef __cplusplus
 }

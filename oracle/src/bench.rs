@@ -2,6 +2,7 @@
 
 mod bench_codes;
 mod bench_desk;
+mod bench_interleaver;
 mod bench_pilots;
 mod bench_report;
 mod bench_session;
@@ -11,6 +12,7 @@ mod bench_tps;
 mod call;
 #[allow(dead_code)]
 mod fields;
+mod permutation;
 #[allow(dead_code)]
 mod points;
 #[allow(dead_code)]
@@ -47,6 +49,7 @@ const POINTS: usize = 4 * 1512;
 fn main() {
     let (mut bytes, mut calls, mut symbols) = (byte_rows(), call_rows(), bench_pilots::rows());
     calls.extend(bench_codes::rows().into_iter().chain(bench_tps::rows()));
+    symbols.extend(bench_interleaver::rows());
     symbols.push(bench_session::feed());
     calls.push(bench_desk::take());
     let (mut slow, mut steps) = (bench_codes::slow_rows(), vec![bench_session::step_back()]);
@@ -76,6 +79,7 @@ fn main() {
     println!("Desk::take is beside the rule over the last four words in Rust (oracle/src/super_frames.rs), since orion-sdr has no desk.");
     println!("orion-sdr's tps_bch_decode makes the tables of its field at each call.");
     println!("ks/s: thousand symbols a second, phase after phase; both sides' objects are made once and write into a lent buffer.");
+    println!("interleave and deinterleave, even and odd symbols in turn, are beside a copy through an index array in Rust.");
     println!("Session::feed is beside orion-sdr's extract_symbol and feed_symbol together; Session::step_back beside our own feeds of all that stand");
     println!("(kc/s: thousand calls a second, all the feeds being one).");
     let rows: Vec<Row> = bytes.into_iter().chain(calls).chain(slow).chain(symbols).chain(steps).chain(reports).collect();

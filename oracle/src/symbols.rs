@@ -40,11 +40,11 @@ pub fn compare(run: &mut Run) {
 }
 
 /// What a call reads and writes, with the floats that it needs of each.
-struct Shape {
-    reads: &'static str,
-    input: usize,
-    writes: &'static str,
-    output: usize,
+pub struct Shape {
+    pub reads: &'static str,
+    pub input: usize,
+    pub writes: &'static str,
+    pub output: usize,
 }
 
 const MAP: Shape = Shape { reads: "data", input: DATA, writes: "symbol", output: SYMBOL };
@@ -54,26 +54,26 @@ const GRID_EXTRACT: Shape = Shape { reads: "symbol", input: SYMBOL, writes: "dat
 
 /// The two slices of a call, the output as it stands before it.
 #[derive(Clone)]
-struct Call {
-    input: Vec<f32>,
-    output: Vec<f32>,
+pub struct Call {
+    pub input: Vec<f32>,
+    pub output: Vec<f32>,
 }
 
 impl Call {
     /// A call with floats of all kinds, in rooms against what the shape needs.
-    fn some(random: &mut Random, shape: &Shape, input: Room, output: Room) -> Self {
+    pub fn some(random: &mut Random, shape: &Shape, input: Room, output: Room) -> Self {
         let (input, output) = (input.size(shape.input), output.size(shape.output));
         Self { input: some_floats(random, input), output: some_floats(random, output) }
     }
 
     /// A call that is not refused.
-    fn accepted(random: &mut Random, shape: &Shape) -> Self {
+    pub fn accepted(random: &mut Random, shape: &Shape) -> Self {
         let (input, output) = (enough(random), enough(random));
         Self::some(random, shape, input, output)
     }
 
     /// Document 01's number for it.
-    fn number(&self, shape: &Shape) -> u8 {
+    pub fn number(&self, shape: &Shape) -> u8 {
         match () {
             _ if self.input.len() < shape.input => LENGTH,
             _ if self.output.len() < shape.output => OUTPUT_SHORT,
@@ -82,7 +82,7 @@ impl Call {
     }
 
     /// Makes the call on lent memory; gives its answer, the output behind it, and what became of the other memory.
-    fn lent<R>(&self, shape: &Shape, call: impl FnOnce(&[f32], &mut [f32]) -> R) -> (R, Vec<f32>, String) {
+    pub fn lent<R>(&self, shape: &Shape, call: impl FnOnce(&[f32], &mut [f32]) -> R) -> (R, Vec<f32>, String) {
         let mut input = Lent::to_read(shape.reads, &self.input);
         let mut output = Lent::to_write(shape.writes, &self.output);
         let answer = call(input.slice(), output.slice_mut());
@@ -99,14 +99,14 @@ impl Call {
     }
 
     /// Shorter slices, then plainer ones.
-    fn smaller<'a>(&'a self, shape: &Shape) -> impl Iterator<Item = Call> + use<'a> {
+    pub fn smaller<'a>(&'a self, shape: &Shape) -> impl Iterator<Item = Call> + use<'a> {
         let inputs = shorter(&self.input, shape.input).chain(plainer(&self.input)).map(|input| Call { input, ..self.clone() });
         let outputs = shorter(&self.output, shape.output).chain(plainer(&self.output)).map(|output| Call { output, ..self.clone() });
         inputs.chain(outputs)
     }
 
     /// The call in words.
-    fn show(&self, shape: &Shape) -> String {
+    pub fn show(&self, shape: &Shape) -> String {
         let list = |slice: &[f32]| floats(&slice.iter().map(|float| float.to_bits()).collect::<Vec<_>>());
         let (input, output) = (list(&self.input), list(&self.output));
         format!("{} of {} f32: {input}; lent {} of {} f32, before: {output}", shape.reads, self.input.len(), shape.writes, self.output.len())
@@ -131,7 +131,7 @@ fn enough(random: &mut Random) -> Room {
 }
 
 /// Every kind of room.
-fn every_room(random: &mut Random) -> [Room; 7] {
+pub fn every_room(random: &mut Random) -> [Room; 7] {
     let (longer, short) = (Room::Longer(random.between(2, 5_000)), Room::Short(random.between(3, SYMBOL)));
     [Room::Exact, Room::Longer(1), longer, Room::Short(1), Room::Short(2), short, EMPTY]
 }

@@ -176,6 +176,16 @@ pub fn grid_extract(symbol: &[f32], out: &mut [f32]) -> SaltCounted {
     unsafe { salt_grid_extract(symbol.as_ptr(), symbol.len(), out.as_mut_ptr(), out.len()) }
 }
 
+// ---- The symbol interleaver (4.3.4.2)
+
+pub fn interleave(symbol: usize, cells: &[f32], out: &mut [f32]) -> SaltCounted {
+    unsafe { salt_interleave(symbol, cells.as_ptr(), cells.len(), out.as_mut_ptr(), out.len()) }
+}
+
+pub fn deinterleave(symbol: usize, cells: &[f32], out: &mut [f32]) -> SaltCounted {
+    unsafe { salt_deinterleave(symbol, cells.as_ptr(), cells.len(), out.as_mut_ptr(), out.len()) }
+}
+
 // ---- The code of the TPS words (4.6.2.11)
 
 pub fn tps_bch_encode(info: &[u8], out: &mut [u8]) -> SaltCounted {

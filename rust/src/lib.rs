@@ -1,6 +1,6 @@
-//! The DVB-T 2K waveform layer of a bench analyser: transport packets, energy dispersal, Gray mapping, the pilot grid, TPS
-//! (ETSI EN 300 744, 4.3 to 4.6), a receive session that steps back, a report on received words, and a desk
-//! that names super-frames by their whole cell id.
+//! The DVB-T 2K waveform layer of a bench analyser: transport packets, energy dispersal, the symbol interleaver, Gray
+//! mapping, the pilot grid, TPS (ETSI EN 300 744, 4.3 to 4.6), a receive session that steps back, a report on received
+//! words, and a desk that names super-frames by their whole cell id.
 //!
 //! The work is done by a library that is proved, for all inputs, to do what document 01 says; this crate is a safe cover over its C interface
 //! and has no dependencies. Functions take slices and give a `Result` whose error is a [`Refusal`]; a refused call changes nothing, but for the desk's own two.
@@ -85,6 +85,7 @@ mod constellation;
 pub mod desk;
 mod dispersal;
 mod frames;
+pub mod interleaver;
 mod packets;
 mod pilots;
 mod refusal;

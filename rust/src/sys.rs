@@ -244,6 +244,13 @@ extern "C" {
     pub fn salt_grid_extract(symbol: *const f32, symbol_length: usize, out: *mut f32, out_length: usize) -> SaltCounted;
 }
 
+// ---- The symbol interleaver (4.3.4.2)
+
+extern "C" {
+    pub fn salt_interleave(symbol: usize, cells: *const f32, cells_length: usize, out: *mut f32, out_length: usize) -> SaltCounted;
+    pub fn salt_deinterleave(symbol: usize, cells: *const f32, cells_length: usize, out: *mut f32, out_length: usize) -> SaltCounted;
+}
+
 // ---- The code of the TPS words (4.6.2.11)
 
 #[repr(C)]
@@ -449,11 +456,11 @@ extern "C" {
 // ---- The layout
 
 extern "C" {
-    pub fn salt_layout_987d5bc8() -> u32;
+    pub fn salt_layout_1236aa04() -> u32;
 }
 
 /// Refers to the layout, so that nothing links with an archive of another one; it is called as a program starts, since
 /// a linker drops nothing of what is.
 #[used]
 #[link_section = ".init_array"]
-static LAYOUT: unsafe extern "C" fn() -> u32 = salt_layout_987d5bc8;
+static LAYOUT: unsafe extern "C" fn() -> u32 = salt_layout_1236aa04;

@@ -2,6 +2,7 @@
 
 use saltkernel::desk::{Desk, SuperFrame};
 use saltkernel::fec::PunctureRate;
+use saltkernel::interleaver::{deinterleave, interleave, INTERLEAVED_CELLS};
 use saltkernel::modulate::ConstellationOrder;
 use saltkernel::multicarrier::*;
 use saltkernel::report::{put_heading, put_line, read_line, read_line_mended, Reader, CLOSE_ROOM, HEADING_BYTES, LINE_ROOM};
@@ -192,6 +193,26 @@ fn symbols_come_back_in_every_phase() {
     extractor.reset();
     mapper.reset();
     assert_eq!((extractor.phase(), mapper), (0, ScatteredPilotMapper::new(GuardInterval::G1_32)));
+}
+
+#[test]
+fn interleaved_cells_come_back_by_bits() {
+    let mut data = cells(INTERLEAVED_CELLS + 1);
+    (data[3].re, data[4].im, data[5].re) = (f32::from_bits(0xFFC1_2345), f32::NEG_INFINITY, -0.0);
+    let bits = |cells: &[Complex32]| cells[..INTERLEAVED_CELLS].iter().map(|cell| (cell.re.to_bits(), cell.im.to_bits())).collect::<Vec<_>>();
+    for symbol in [0, 1, 66, 67, usize::MAX] {
+        let (mut sent, mut back) = (vec![ZERO; INTERLEAVED_CELLS + 2], vec![ZERO; INTERLEAVED_CELLS]);
+        assert_eq!(interleave(symbol, &data, &mut sent), Ok(INTERLEAVED_CELLS));
+        assert_eq!((bits(&sent) == bits(&data), &sent[INTERLEAVED_CELLS..]), (false, &[ZERO, ZERO][..]));
+        assert_eq!(deinterleave(symbol, &sent, &mut back), Ok(INTERLEAVED_CELLS));
+        assert_eq!(bits(&back), bits(&data));
+        assert_eq!(deinterleave(symbol ^ 1, &data, &mut back), Ok(INTERLEAVED_CELLS));
+        assert_eq!(bits(&back), bits(&sent));
+        let before = sent.clone();
+        assert_eq!(interleave(symbol, &data[..1511], &mut sent[..1511]), Err(Refusal::Length));
+        assert_eq!(deinterleave(symbol, &data, &mut sent[..1511]), Err(Refusal::OutputShort));
+        assert_eq!(bits(&before), bits(&sent));
+    }
 }
 
 #[test]

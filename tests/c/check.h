@@ -42,6 +42,7 @@ void test_whitener(void);
 void test_constellation(void);
 void test_pilots(void);
 void test_symbols(void);
+void test_interleaver(void);
 void test_codes(void);
 void test_words(void);
 void test_frames(void);

@@ -67,6 +67,10 @@ static uint8_t pilots_of(const Lent *lent) { return salt_scattered_pilot_extract
 static uint8_t extract_symbol(const Lent *lent) { return salt_scattered_pilot_extractor_extract_symbol(extractor, AT(0), AT(1)).number; }
 static uint8_t grid_map(const Lent *lent) { return salt_grid_map(AT(0), AT(1)).number; }
 static uint8_t grid_extract(const Lent *lent) { return salt_grid_extract(AT(0), AT(1)).number; }
+static uint8_t interleave_even(const Lent *lent) { return salt_interleave(2, AT(0), AT(1)).number; }
+static uint8_t interleave_odd(const Lent *lent) { return salt_interleave(67, AT(0), AT(1)).number; }
+static uint8_t deinterleave_even(const Lent *lent) { return salt_deinterleave(2, AT(0), AT(1)).number; }
+static uint8_t deinterleave_odd(const Lent *lent) { return salt_deinterleave(67, AT(0), AT(1)).number; }
 
 /* Functions of TPS. */
 static uint8_t encode(const Lent *lent) { return salt_tps_bch_encode(AT(0), AT(1)).number; }
@@ -137,6 +141,10 @@ static const Function functions[] = {
     {"ScatteredPilotExtractor::extract_symbol", extract_symbol, {{4, SALT_SYMBOL_FLOATS, READ, AT_LEAST}, {4, SALT_DATA_FLOATS, FRONT, OUTPUT}}},
     {"grid_map", grid_map, {{4, SALT_STATIC_DATA_FLOATS, READ, NO_MORE}, {4, SALT_SYMBOL_FLOATS, FRONT, IN_VAIN}}},
     {"grid_extract", grid_extract, {{4, SALT_SYMBOL_FLOATS, READ, AT_LEAST}, {4, SALT_STATIC_DATA_FLOATS, FRONT, OUTPUT}}},
+    {"interleave, even", interleave_even, {{4, SALT_DATA_FLOATS, READ, AT_LEAST}, {4, SALT_DATA_FLOATS, FRONT, OUTPUT}}},
+    {"interleave, odd", interleave_odd, {{4, SALT_DATA_FLOATS, READ, AT_LEAST}, {4, SALT_DATA_FLOATS, FRONT, OUTPUT}}},
+    {"deinterleave, even", deinterleave_even, {{4, SALT_DATA_FLOATS, READ, AT_LEAST}, {4, SALT_DATA_FLOATS, FRONT, OUTPUT}}},
+    {"deinterleave, odd", deinterleave_odd, {{4, SALT_DATA_FLOATS, READ, AT_LEAST}, {4, SALT_DATA_FLOATS, FRONT, OUTPUT}}},
     {"tps_bch_encode", encode, {{1, SALT_TPS_INFORMATION_BITS, READ, ONE_LENGTH}, {1, SALT_TPS_CODEWORD_BITS, FRONT, OUTPUT}}},
     {"tps_bch_decode", decode, {{1, SALT_TPS_CODEWORD_BITS, READ, ONE_LENGTH}, {1, SALT_TPS_INFORMATION_BITS, FRONT, OUTPUT}}},
     {"tps_bch_decode_slow", decode_slow, {{1, SALT_TPS_CODEWORD_BITS, READ, ONE_LENGTH}, {1, SALT_TPS_INFORMATION_BITS, FRONT, OUTPUT}}},

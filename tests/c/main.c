@@ -22,7 +22,7 @@ static const struct {
     {"pilots", test_pilots},   {"symbols", test_symbols},   {"codes", test_codes},
     {"words", test_words},     {"frames", test_frames},     {"session", test_session},
     {"desk", test_desk},       {"reports", test_reports},   {"lengths", test_lengths},
-    {"layout", test_layout},
+    {"layout", test_layout},   {"interleaver", test_interleaver},
 };
 
 int main(void) {

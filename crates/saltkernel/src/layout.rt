@@ -6,8 +6,8 @@ ghost use mathlib.Core.Path.{_≡_};
 
 // The number of the layout.
 #[no_mangle]
-pub extern "C" fn salt_layout_987d5bc8() -> u32
-    ensures { λ r. ⌜ r ≡ 2558352328 ⌝ }
+pub extern "C" fn salt_layout_1236aa04() -> u32
+    ensures { λ r. ⌜ r ≡ 305572356 ⌝ }
 {
-    2558352328
+    305572356
 }

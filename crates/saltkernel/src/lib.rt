@@ -29,6 +29,7 @@ mod codes;
 mod constellation;
 mod desks;
 mod frames;
+mod interleaving;
 mod layout;
 mod packets;
 mod pilots;

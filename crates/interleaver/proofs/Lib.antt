@@ -1,0 +1,11 @@
+pub mod Walk
+pub mod Count
+pub mod Sorting
+pub mod Facts
+pub mod Moving
+pub mod Cells
+pub mod Parity
+pub mod Calls
+pub mod Round
+pub mod Determined
+pub mod Exists

@@ -1,0 +1,3 @@
+pub mod Permutation
+pub mod Interleaving
+pub mod Inner
