@@ -80,7 +80,8 @@ enum {
 #define SALT_TPS_CODEWORD_BITS 67    /* the bits of a TPS codeword */
 #define SALT_NO_PLACE 255            /* a place of a codeword that stands for none */
 #define SALT_TPS_WORD_BITS 68        /* a zero bit s0 and the codeword; the symbols of a frame are as many */
-#define SALT_JOURNAL_FLOATS 2312     /* a session's journal: the TPS cells of 68 symbols */
+#define SALT_JOURNAL_FLOATS 4624     /* a session's journal: the TPS cells of the 68 symbols of two frames */
+#define SALT_LAST_FRAME 1000000      /* the largest count of frames before a session's current one */
 
 #define SALT_LINE_DIGITS 17   /* a line of the report's input: the 68 bits of a word, four a digit */
 #define SALT_HEADING_BYTES 41 /* the report's heading */
@@ -565,19 +566,24 @@ SaltUnpacked salt_tps_decoder_word(SaltTpsDecoder decoder);
 /* ---- The receive session */
 
 /*
- * The extractor and the TPS decoder joined, with a journal that steps back. With n symbols standing the phase is n mod
- * 4, and place n of the journal, 34 floats from 34 n on, is the next symbol's. The caller lends one journal for each
- * session, always the same, and writes nothing to it in between.
+ * The extractor and the TPS decoder joined, with a journal of two frames that steps back. With n symbols standing in
+ * frame c, the frames since the reset being counted from 0, the phase is n mod 4, and the 34 floats of the journal from
+ * 2,312 (c mod 2) + 34 n on are the next symbol's. A feed with 68 standing begins the next frame, and the frame before
+ * the previous one can't be gone back to any more. The caller lends one journal for each session, always the same, and
+ * writes nothing to it in between.
  */
 
 /*
- * The session: the previous symbol's TPS cells, the bits, and how many symbols stand. A count above 68 is read as 68,
- * a held bit above 1 as 1, and a bit that doesn't stand as 0.
+ * The session: the previous symbol's TPS cells, the bits and how many symbols stand in the current frame, how many
+ * frames are before it since the reset, and whether a later one was begun, which any number but 0 says. A count above
+ * 68 is read as 68, one of frames above 1,000,000 as that, a held bit above 1 as 1, and a bit that doesn't stand as 0.
  */
 typedef struct SaltSession {
     SaltCell prev[17];
     uint8_t bits[68];
     size_t count;
+    size_t frames;
+    uint8_t behind;
 } SaltSession;
 
 /* The symbol's TPS bit and the session behind it; or a refusal's number, the bit 0 and the session as it went in. */
@@ -593,7 +599,7 @@ typedef struct SaltSessionStepped {
     SaltSession session;
 } SaltSessionStepped;
 
-/* A session with no symbol standing; its journal may hold anything. */
+/* A session with no symbol standing, in frame 0; its journal may hold anything. */
 SaltSession salt_session_new(void);
 
 /* The session with no symbol standing again. */
@@ -601,16 +607,18 @@ SaltSession salt_session_reset(SaltSession session);
 
 /*
  * Takes one symbol: its 1,512 data cells to the output, its 17 TPS cells to their place of the journal, both in rising
- * active order, and its TPS bit.
+ * active order, and its TPS bit. With 68 standing it is the first symbol of the next frame.
  * Refusals: 1 LENGTH (fewer than 4,096 floats of symbol), 3 OUTPUT SHORT (room for fewer than 3,024 floats, or a
- * journal under 2,312), 6 FULL.
+ * journal under 4,624), 6 FULL (68 stand and 1,000,000 frames are before them).
  */
 SaltSessionFed salt_session_feed(SaltSession session, const float *symbol, size_t symbol_length, float *out,
                                  size_t out_length, float *journal, size_t journal_length);
 
 /*
- * Takes the latest standing symbol back; the journal is only read.
- * Refusals: 3 OUTPUT SHORT (a journal under 2,312), 7 EMPTY.
+ * Takes the latest standing symbol back; the first of a later frame leaves the 68 of the frame before standing. The
+ * journal is only read.
+ * Refusals: 3 OUTPUT SHORT (a journal under 4,624), 7 EMPTY (none stands; or a third frame was begun, the current one is
+ * the one before the furthest begun, and one symbol stands in it).
  */
 SaltSessionStepped salt_session_step_back(SaltSession session, const float *journal, size_t journal_length);
 
@@ -618,7 +626,7 @@ SaltSessionStepped salt_session_step_back(SaltSession session, const float *jour
 size_t salt_session_phase(SaltSession session);
 
 /*
- * The word of 68 standing symbols.
+ * The word of the 68 standing symbols of the current frame.
  * Refusals: 8 INCOMPLETE, 4 NO WORD, 5 RESERVED.
  */
 SaltUnpacked salt_session_word(SaltSession session);
@@ -761,9 +769,9 @@ SaltCounted salt_reader_close_slow(SaltReader reader, uint8_t *out, size_t out_l
  */
 
 /* The number of the layout. */
-uint32_t salt_layout_1236aa04(void);
+uint32_t salt_layout_7188a159(void);
 
-#define SALT_LAYOUT salt_layout_1236aa04
+#define SALT_LAYOUT salt_layout_7188a159
 
 #ifdef __cplusplus
 }

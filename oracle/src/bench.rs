@@ -52,7 +52,7 @@ fn main() {
     symbols.extend(bench_interleaver::rows());
     symbols.push(bench_session::feed());
     calls.push(bench_desk::take());
-    let (mut slow, mut steps) = (bench_codes::slow_rows(), vec![bench_session::step_back()]);
+    let (mut slow, mut steps) = (bench_codes::slow_rows(), vec![bench_session::step_back(), bench_session::step_back_over()]);
     let mut reports = vec![bench_report::row()];
     for _ in 0..ROUNDS {
         bytes.iter_mut().chain(&mut calls).chain(&mut slow).chain(&mut symbols).chain(&mut steps).for_each(Row::measure);
@@ -81,7 +81,7 @@ fn main() {
     println!("ks/s: thousand symbols a second, phase after phase; both sides' objects are made once and write into a lent buffer.");
     println!("interleave and deinterleave, even and odd symbols in turn, are beside a copy through an index array in Rust.");
     println!("Session::feed is beside orion-sdr's extract_symbol and feed_symbol together; Session::step_back beside our own feeds of all that stand");
-    println!("(kc/s: thousand calls a second, all the feeds being one).");
+    println!("(kc/s: thousand calls a second, all the feeds being one), and where it leads into the frame before beside ten feeds.");
     let rows: Vec<Row> = bytes.into_iter().chain(calls).chain(slow).chain(symbols).chain(steps).chain(reports).collect();
     let below = rows.iter().filter(|row| row.below()).count();
     let asked = rows.iter().filter(|row| row.asked.is_some()).count();

@@ -1,5 +1,5 @@
-//! The rows of the benchmark for the receive session, which orion-sdr has not: a feed against its extract_symbol and feed_symbol together,
-//! and a step back against our own feeds of all symbols that stand.
+//! The rows of the benchmark for the receive session, which orion-sdr has not: a feed against its extract_symbol and feed_symbol together, a step back
+//! against our own feeds of all symbols that stand, and one over a frame's beginning against ten of our own feeds.
 
 use super::{Row, Side, copying};
 use crate::call;
@@ -13,7 +13,7 @@ use std::hint::black_box;
 const SYMBOL: usize = 2048;
 const DATA: usize = 1512;
 /// Floats of a journal.
-const JOURNAL: usize = 2312;
+const JOURNAL: usize = 4624;
 /// Symbols of a frame: those of one action of the first row.
 const FRAME: usize = 68;
 /// Symbols that stand before the step back.
@@ -66,4 +66,20 @@ pub fn step_back() -> Row {
         black_box(call::session_step_back(black_box(session), black_box(&journal)));
     };
     Row { name: "Session::step_back", size: STANDING, amount: 1000, asked: Some(20.0), orion: Side::new(again), ours: Side::new(back), copy: None }
+}
+
+/// A step back of the first symbol of a frame, against ten of our own feeds.
+pub fn step_back_over() -> Row {
+    let (symbols, mut out, mut journal) = (symbols(FRAME + 1), vec![0.0; 2 * DATA], vec![0.0; JOURNAL]);
+    let fed = |session, symbol: &Vec<f32>| call::session_feed(session, symbol, &mut out, &mut journal).session;
+    let session = symbols.iter().fold(call::session_new(), fed);
+    let mut other = journal.clone();
+    let ten = move || {
+        let fed = |session, symbol: &Vec<f32>| call::session_feed(session, black_box(symbol), black_box(&mut out), black_box(&mut other)).session;
+        black_box(symbols[..10].iter().fold(call::session_new(), fed));
+    };
+    let back = move || {
+        black_box(call::session_step_back(black_box(session), black_box(&journal)));
+    };
+    Row { name: "Session::step_back, over a frame", size: FRAME, amount: 1000, asked: Some(1.0), orion: Side::new(ten), ours: Side::new(back), copy: None }
 }

@@ -1,4 +1,5 @@
-//! The receive session, which orion-sdr has not: it must show after every call what orion-sdr's extractor and decoder give on the symbols that stand.
+//! The receive session, which orion-sdr has not: it must show after every call what orion-sdr's extractor and decoder give on the symbols that stand, the
+//! decoder reset at each frame.
 
 use crate::answer::Answer;
 use crate::fields::GUARDS;
@@ -10,20 +11,26 @@ use crate::session_sides::{Orion, Ours, Side, Theirs};
 use crate::{cells, shrink};
 use std::cell::RefCell;
 
-/// So many random scripts are compared in bulk.
+/// So many random scripts are compared in bulk, and so many over frames, of which one in four goes back into the frame before at least twice.
 const SCRIPTS: usize = 10_000;
+const OVER_FRAMES: usize = 10_000;
+const TWICE: usize = 4;
 /// One script in so many has orion-sdr's extractor extract all standing symbols again at each call: in bulk, and of the others.
 const AFRESH: usize = 20;
 const AFRESH_OTHERWISE: usize = 4;
 
 /// Compares all functions of this module, each over scripts of calls; after each call all that can be asked is asked.
 pub fn compare(run: &mut Run) {
-    run.compare("Session::feed", Session::new(scripts::feeds, 0));
-    run.compare("Session::step_back", Session::new(scripts::step_backs, 0));
-    run.compare("Session::reset", Session::new(scripts::resets, 0));
-    run.compare("Session::word", Session::new(scripts::words, 0));
-    run.compare("Session, states handed in", Session::new(scripts::handed_in, 0));
-    run.compare("Session, random scripts", Session::new(scripts::some, SCRIPTS));
+    let random: Bulk = |random, _| scripts::script(random);
+    let framed: Bulk = |random, number| scripts::over_frames(random, number % TWICE == 0);
+    run.compare("Session::feed", Session::new(scripts::feeds, 0, random));
+    run.compare("Session::step_back", Session::new(scripts::step_backs, 0, random));
+    run.compare("Session::reset", Session::new(scripts::resets, 0, random));
+    run.compare("Session::word", Session::new(scripts::words, 0, random));
+    run.compare("Session, states handed in", Session::new(scripts::handed_in, 0, random));
+    run.compare("Session, frame counts handed in", Session::new(scripts::frames_handed_in, 0, random));
+    run.compare("Session, random scripts", Session::new(scripts::some, SCRIPTS, random));
+    run.compare("Session, over frames", Session::new(scripts::frames, OVER_FRAMES, framed));
 }
 
 /// Calls on a new session; orion-sdr's guard interval, and whether its extractor extracts all standing symbols again at each call.
@@ -46,18 +53,22 @@ fn who_says(script: &Script) -> Source {
     if scripts::by_document(&script.steps) { Source::Document } else { Source::Orion }
 }
 
-/// Scripts that try a function of the session; so many more random ones are compared in bulk.
+/// The script of a number among those that are compared in bulk.
+type Bulk = fn(&mut Random, usize) -> Vec<Step>;
+
+/// Scripts that try a function of the session; so many more are compared in bulk.
 struct Session {
     cases: Cases<Vec<Step>>,
     bulk: usize,
+    script: Bulk,
     memory: Memory,
     orion: [RefCell<Orion>; 4],
 }
 
 impl Session {
     /// The function with orion-sdr's extractors, one for each guard interval.
-    fn new(cases: Cases<Vec<Step>>, bulk: usize) -> Self {
-        Self { cases, bulk, memory: Memory::new(), orion: GUARDS.map(|guard| RefCell::new(Orion::new(guard))) }
+    fn new(cases: Cases<Vec<Step>>, bulk: usize, script: Bulk) -> Self {
+        Self { cases, bulk, script, memory: Memory::new(), orion: GUARDS.map(|guard| RefCell::new(Orion::new(guard))) }
     }
 
     /// Calls one side, and gives all that it answers.
@@ -107,7 +118,7 @@ impl Subject for Session {
     fn in_bulk(&self, random: &mut Random, differs: &mut dyn FnMut(Script)) -> usize {
         let count = random.part_of(self.bulk);
         for number in 0..count {
-            let script = Script::numbered(number, AFRESH, scripts::script(random));
+            let script = Script::numbered(number, AFRESH, (self.script)(random, number));
             if !self.equal(&script) {
                 differs(script);
             }

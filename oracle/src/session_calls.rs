@@ -16,19 +16,55 @@ use std::ops::Range;
 pub const SYMBOL: usize = 4096;
 /// Floats of a symbol's data.
 pub const DATA: usize = 3024;
-/// Floats of a journal.
-pub const JOURNAL: usize = WORD * CELLS;
+/// Floats of a journal: two frames.
+pub const JOURNAL: usize = 2 * WORD * CELLS;
+/// The largest count of frames before the current one.
+pub const LAST_FRAME: usize = 1_000_000;
 /// At most so many floats are lent beyond those.
 pub const SURPLUS: usize = 64;
 
-/// One call on a session; `Hand` is none: the state is handed in with another count where 68 stand, other previous cells where none does, another
-/// byte for each bit of 1, and one for each bit that doesn't stand.
+/// One call on a session; `Hand` and `HandFrame` are none. With `Hand` the state is handed in with another count where 68 stand, other previous cells
+/// where none does, another byte for each bit of 1, and one for each bit that doesn't stand; with `HandFrame` with another count of frames, which is of
+/// the same half, and another byte for whether a later one was begun.
 #[derive(Clone)]
 pub enum Step {
     Feed(Feed),
     StepBack(Room),
     Reset,
     Hand { count: usize, one: u8, other: u8 },
+    HandFrame { frames: usize, behind: u8 },
+}
+
+/// What stands, as far as a call's number depends on it: how many symbols in the current frame, how many frames are before it, and the furthest begun.
+#[derive(Clone, Copy, Default)]
+pub struct Level {
+    pub standing: usize,
+    pub frames: usize,
+    pub begun: usize,
+}
+
+impl Level {
+    /// Whether the latest symbol is the first of a later frame.
+    pub fn is_first_of_later(self) -> bool {
+        self.standing == 1 && self.frames > 0
+    }
+
+    /// What stands after a call.
+    pub fn after(self, step: &Step) -> Self {
+        match step {
+            _ if step.number(self) != 0 => self,
+            Step::Feed(_) if self.standing == WORD => Self { standing: 1, frames: self.frames + 1, begun: self.begun.max(self.frames + 1) },
+            Step::Feed(_) => Self { standing: self.standing + 1, ..self },
+            Step::StepBack(_) if self.is_first_of_later() => Self { standing: WORD, frames: self.frames - 1, ..self },
+            Step::StepBack(_) => Self { standing: self.standing - 1, ..self },
+            Step::Reset => Self::default(),
+            Step::Hand { .. } => self,
+            Step::HandFrame { frames, behind } => {
+                let frames = (*frames).min(LAST_FRAME);
+                Self { frames, begun: frames + usize::from(*behind != 0), ..self }
+            }
+        }
+    }
 }
 
 /// A feed: the symbol that begins at a place of the pool, with other TPS cells in it; and the sizes of symbol, output and journal.
@@ -47,19 +83,25 @@ impl Feed {
 }
 
 impl Step {
-    /// Document 01's number for the call where so many symbols stand.
-    pub fn number(&self, standing: usize) -> u8 {
+    /// The number of the call by documents 01 and 02, where so much stands.
+    pub fn number(&self, level: Level) -> u8 {
         match self {
             Step::Feed(feed) => match feed.lengths() {
                 [symbol, _, _] if symbol < SYMBOL => LENGTH,
                 [_, output, journal] if output < DATA || journal < JOURNAL => OUTPUT_SHORT,
-                _ if standing >= WORD => FULL,
+                _ if level.frames == LAST_FRAME && level.standing == WORD => FULL,
                 _ => 0,
             },
             Step::StepBack(room) if room.size(JOURNAL) < JOURNAL => OUTPUT_SHORT,
-            Step::StepBack(_) if standing == 0 => EMPTY,
+            Step::StepBack(_) if level.standing == 0 => EMPTY,
+            Step::StepBack(_) if level.begun >= 2 && level.frames + 1 == level.begun && level.standing == 1 => EMPTY,
             _ => 0,
         }
+    }
+
+    /// Whether it is no call: a state is handed in.
+    pub fn is_hand(&self) -> bool {
+        matches!(self, Step::Hand { .. } | Step::HandFrame { .. })
     }
 
     /// The call in words.
@@ -70,6 +112,7 @@ impl Step {
             Step::Hand { count, one, other } => {
                 format!("handed in with count {count} where 68 stand, cells of {HANDED:?} where none does, {one} for each bit of 1 and {other} for each other")
             }
+            Step::HandFrame { frames, behind } => format!("handed in with {frames} frames before, and {behind} for a later one"),
             Step::Feed(feed) => {
                 let ([symbol, output, journal], cells) = (feed.lengths(), floats(&feed.cells.map(f32::to_bits)));
                 let place = feed.place;
@@ -86,6 +129,9 @@ pub struct Seen {
     pub bit: u8,
     /// Whether a refusal gave the session back as it went in.
     pub kept: bool,
+    pub frames: usize,
+    /// Whether a later frame was begun.
+    pub behind: bool,
     pub count: usize,
     /// The bits, one above 1 as 1; those that don't stand are seen after an accepted call.
     pub bits: [u8; WORD],
@@ -100,6 +146,7 @@ impl Seen {
     fn added(&self, answer: Answer, name: &dyn Fn(&str) -> String) -> Answer {
         let answer = answer.number(&name("number"), u64::from(self.number)).number(&name("bit"), u64::from(self.bit));
         let answer = answer.number(&name("session as it went in where refused"), u64::from(self.kept));
+        let answer = answer.number(&name("frames before"), self.frames as u64).number(&name("a later frame begun"), u64::from(self.behind));
         let answer = answer.number(&name("symbols standing"), self.count as u64).number(&name("phase"), self.phase as u64);
         let answer = answer.bytes(&name("bits"), &self.bits).floats(&name("previous cells"), &self.prev.map(f32::from_bits));
         with_word(answer, &name(""), self.word)
@@ -149,6 +196,12 @@ impl Memory {
         &self.journal[JOURNAL_START..JOURNAL_START + length]
     }
 
+    /// The floats of the journal that the first symbols of a frame have, so many of them.
+    pub fn places(&self, frame: usize, count: usize) -> &[f32] {
+        let start = JOURNAL_START + place_of(frame, 0);
+        &self.journal[start..start + count * CELLS]
+    }
+
     /// Puts a feed's TPS cells into its symbol, or takes them out again: exchanges them with those of the feed.
     pub fn exchange(&mut self, step: &mut Step) {
         let Step::Feed(feed) = step else { return };
@@ -188,7 +241,7 @@ impl Memory {
     pub fn added(&self, answer: Answer, place: usize, before: &Self, step: &Step, seen: &Seen) -> Answer {
         let name = |part: &str| format!("call {place}: {part}");
         let answer = seen.added(answer, &name).floats(&name("data"), &self.output[written(step, seen).0]);
-        let answer = answer.floats(&name("used journal"), self.journal(seen.count.min(WORD) * CELLS));
+        let answer = answer.floats(&name("used journal"), self.places(seen.frames.min(LAST_FRAME), seen.count.min(WORD)));
         answer.surroundings(&self.trespass(before, step, seen))
     }
 }
@@ -198,8 +251,13 @@ fn written(step: &Step, seen: &Seen) -> (Range<usize>, Range<usize>) {
     if seen.number != 0 || !matches!(step, Step::Feed(_)) {
         return (0..0, 0..0);
     }
-    let place = JOURNAL_START + seen.count.clamp(1, WORD) * CELLS;
-    (OUTPUT_START..OUTPUT_START + DATA, place - CELLS..place)
+    let place = JOURNAL_START + place_of(seen.frames, seen.count.clamp(1, WORD) - 1);
+    (OUTPUT_START..OUTPUT_START + DATA, place..place + CELLS)
+}
+
+/// Where the place of a symbol of a frame begins in the journal.
+pub fn place_of(frame: usize, symbol: usize) -> usize {
+    (frame % 2 * WORD + symbol) * CELLS
 }
 
 /// Whether floats have the same bits.

@@ -3,61 +3,65 @@
 use crate::lent::{EMPTY, Room};
 use crate::random::Random;
 use crate::receiver::counts;
-use crate::session_calls::{Feed, PLACES, SURPLUS, Step};
+use crate::session_calls::{Feed, LAST_FRAME, Level, PLACES, SURPLUS, Step};
 use crate::signals::{CELLS, Cells, Signal};
 use crate::words::WORD;
 
 /// A random script has at most so many calls.
 const CALLS: usize = 300;
 
-/// Whether document 01 says what a script's answer is: a call is refused, or a state is handed in.
+/// Whether the documents say what a script's answer is: a call is refused, or a state is handed in.
 pub fn by_document(steps: &[Step]) -> bool {
-    let mut standing = 0;
+    let mut level = Level::default();
     steps.iter().any(|step| {
-        let refused = step.number(standing) != 0;
-        standing = after(standing, step);
-        refused || matches!(step, Step::Hand { .. })
+        let refused = step.number(level) != 0;
+        level = level.after(step);
+        refused || step.is_hand()
     })
 }
 
-/// How many symbols stand after a call.
-fn after(standing: usize, step: &Step) -> usize {
-    match step {
-        _ if step.number(standing) != 0 => standing,
-        Step::Feed(_) => standing + 1,
-        Step::StepBack(_) => standing - 1,
-        Step::Reset => 0,
-        Step::Hand { .. } => standing,
-    }
+/// How many step backs of a script lead into the frame before.
+fn crossings(steps: &[Step]) -> usize {
+    let mut level = Level::default();
+    let crosses = |step: &&Step| {
+        let crosses = matches!(step, Step::StepBack(_)) && level.is_first_of_later() && step.number(level) == 0;
+        level = level.after(step);
+        crosses
+    };
+    steps.iter().filter(crosses).count()
 }
 
-/// A script that grows: its calls, the signal that its symbols come from, and the TPS cells of those that stand.
+/// A script that grows: its calls, the signal that its symbols come from, what stands, and the TPS cells of the symbols fed last.
 struct Growing {
     steps: Vec<Step>,
     signal: Signal,
-    standing: Vec<Cells>,
+    level: Level,
+    fed: Vec<Cells>,
 }
 
 impl Growing {
     /// No call yet.
     fn new(signal: Signal) -> Self {
-        Self { steps: vec![], signal, standing: vec![] }
+        Self { steps: vec![], signal, level: Level::default(), fed: vec![] }
     }
 
     /// Adds a call.
     fn push(&mut self, step: Step) {
-        let standing = after(self.standing.len(), &step);
-        if let (true, Step::Feed(feed)) = (standing > self.standing.len(), &step) {
-            self.standing.push(feed.cells);
+        match &step {
+            _ if step.number(self.level) != 0 => (),
+            Step::Feed(feed) => self.fed.push(feed.cells),
+            Step::StepBack(_) => drop(self.fed.pop()),
+            Step::Reset => self.fed.clear(),
+            _ => (),
         }
-        self.standing.truncate(standing);
+        self.level = self.level.after(&step);
         self.steps.push(step);
     }
 
     /// Adds a feed of the signal's next symbol, in these rooms.
     fn feed_in(&mut self, random: &mut Random, rooms: [Room; 3]) {
-        let previous = self.standing.last().copied().unwrap_or([0.0; CELLS]);
-        let cells = self.signal.symbol(random, self.standing.len(), &previous);
+        let previous = self.fed.last().copied().unwrap_or([0.0; CELLS]);
+        let cells = self.signal.symbol(random, self.level.standing, &previous);
         let place = if random.below(16) == 0 { PLACES.start } else { random.between(PLACES.start, PLACES.end - 1) };
         self.push(Step::Feed(Feed { place, cells, rooms }));
     }
@@ -90,14 +94,36 @@ impl Growing {
         if random.below(3) == 0 { self.push(Step::StepBack(rooms[0])) } else { self.feed_in(random, rooms) }
     }
 
-    /// Adds a feed or a step back where it goes on, and one in four times where 68 stand or none.
+    /// Adds a feed or a step back, which one in four times is where none can go back any more.
     fn go_on(&mut self, random: &mut Random, up: bool) {
-        let end = if up { WORD } else { 0 };
         match up {
-            _ if self.standing.len() == end && random.below(4) > 0 => (),
             true => self.feed(random),
+            false if Step::StepBack(Room::Exact).number(self.level) != 0 && random.below(4) > 0 => (),
             false => self.step_back(random),
         }
+    }
+
+    /// Feeds until so many stand in the current frame.
+    fn feed_up_to(&mut self, random: &mut Random, standing: usize) {
+        while self.level.standing < standing {
+            self.feed(random);
+        }
+    }
+
+    /// Goes over the end of the frame and back into it, and on again, by a few symbols each time.
+    fn about_the_end(&mut self, random: &mut Random) {
+        let (short, back) = (random.below(4), random.below(4));
+        self.feed_up_to(random, WORD - short);
+        self.step_backs(random, back);
+        self.feed_up_to(random, WORD);
+        let on = random.between(1, 4);
+        self.feeds(random, on);
+        let back = random.between(on, on + 4);
+        self.step_backs(random, back);
+        if random.below(4) == 0 {
+            self.any(random);
+        }
+        self.feed_up_to(random, WORD);
     }
 }
 
@@ -119,7 +145,7 @@ fn any_room(random: &mut Random) -> Room {
 
 /// Every kind of room.
 fn every_room(random: &mut Random) -> [Room; 5] {
-    [Room::Exact, Room::Longer(random.between(1, SURPLUS)), Room::Short(1), Room::Short(random.between(2, 2311)), EMPTY]
+    [Room::Exact, Room::Longer(random.between(1, SURPLUS)), Room::Short(1), Room::Short(random.between(2, 3023)), EMPTY]
 }
 
 /// A random script: feeds and step backs in rows of up to 80, refused calls and resets, and now and then another signal.
@@ -141,14 +167,73 @@ pub fn script(random: &mut Random) -> Vec<Step> {
     growing.steps
 }
 
+/// A script over up to five frames, with step backs about the end of each, then some way back, to where it can't go on one in three times. It goes back
+/// into the frame before at least twice where that is asked.
+pub fn over_frames(random: &mut Random, twice: bool) -> Vec<Step> {
+    let mut growing = Growing::new(Signal::some(random));
+    let ends = random.between(if twice { 2 } else { 1 }, 4);
+    for _ in 0..ends {
+        growing.about_the_end(random);
+        growing.feed(random);
+        if random.below(8) == 0 {
+            growing.signal = Signal::some(random);
+        }
+    }
+    let on = random.below(3);
+    growing.feeds(random, on);
+    let back = if random.below(3) == 0 { 2 * WORD } else { random.below(8) };
+    (0..back).for_each(|_| growing.go_on(random, false));
+    let (on, reset) = (random.below(6), random.below(8) == 0);
+    growing.feeds(random, on);
+    if reset {
+        growing.push(Step::Reset);
+        growing.any(random);
+    }
+    assert!(crossings(&growing.steps) >= if twice { 2 } else { 1 }, "a script that doesn't go back into the frame before");
+    growing.steps
+}
+
+/// Scripts over frames.
+pub fn frames(random: &mut Random, compare: &mut dyn FnMut(Vec<Step>)) {
+    (0..20).for_each(|number| compare(over_frames(random, number % 2 == 0)));
+}
+
+/// Frame counts about 1,000,000 and above it handed in with each byte of a few for a later frame, at the beginning, in the midst and at the end of an even
+/// and of an odd frame; and feeds over its end, step backs over its beginning and feeds again behind it.
+pub fn frames_handed_in(random: &mut Random, compare: &mut dyn FnMut(Vec<Step>)) {
+    let counts = (LAST_FRAME - 3..=LAST_FRAME + 3).chain([0, 1, 2, 3, 1 << 32, usize::MAX - 1, usize::MAX]);
+    for (frames, behind) in counts.flat_map(|frames| [0, 1, 2, u8::MAX].map(|behind| (frames, behind))) {
+        for standing in [0, 1, 2, 40, WORD - 1, WORD] {
+            let odd = frames.min(LAST_FRAME) % 2;
+            if odd == 1 && standing == 0 {
+                continue;
+            }
+            let mut growing = Growing::new(Signal::sent(random));
+            growing.feeds(random, odd * WORD + standing);
+            compare(growing.steps.clone());
+            growing.push(Step::HandFrame { frames, behind });
+            growing.any(random);
+            compare(growing.steps.clone());
+            let back = random.between(1, 4);
+            growing.step_backs(random, back);
+            growing.feed_up_to(random, WORD - 1);
+            growing.feeds(random, 4);
+            growing.step_backs(random, 6);
+            growing.feeds(random, WORD + 2);
+            growing.step_backs(random, 2 * WORD + 3);
+            compare(growing.steps);
+        }
+    }
+}
+
 /// Random scripts.
 pub fn some(random: &mut Random, compare: &mut dyn FnMut(Vec<Step>)) {
     (0..20).for_each(|_| compare(script(random)));
 }
 
-/// Feeds alone, up to 68 and beyond; and one in rooms of every kind in each phase and where 68 stand, with a feed and a step back behind it.
+/// Feeds alone, up to 68 and into the next frame; and one in rooms of every kind in each phase and where 68 stand, with a feed and a step back behind it.
 pub fn feeds(random: &mut Random, compare: &mut dyn FnMut(Vec<Step>)) {
-    for count in 0..=WORD + 2 {
+    for count in 0..=WORD + 5 {
         let mut growing = Growing::new(Signal::some(random));
         growing.feeds(random, count);
         compare(growing.steps);
@@ -181,7 +266,7 @@ pub fn step_backs(random: &mut Random, compare: &mut dyn FnMut(Vec<Step>)) {
         growing.feeds(random, back + 2);
         compare(growing.steps);
     }
-    for (count, kind) in [0, 1, 2, 5, WORD].into_iter().flat_map(|count| (0..5).map(move |kind| (count, kind))) {
+    for (count, kind) in [0, 1, 2, 5, WORD, WORD + 1].into_iter().flat_map(|count| (0..5).map(move |kind| (count, kind))) {
         let mut growing = Growing::new(Signal::some(random));
         growing.feeds(random, count);
         growing.push(Step::StepBack(every_room(random)[kind]));

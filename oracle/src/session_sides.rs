@@ -1,12 +1,12 @@
 //! The two sides of a session's script: the port's session, and orion-sdr's ScatteredPilotExtractor and TpsDecoder run afresh on the symbols
-//! that stand.
+//! that stand, the decoder reset at each frame.
 
 use crate::call;
 use crate::cells::cells;
 use crate::points::pattern;
 use crate::receiver::HANDED;
 use crate::refusals::INCOMPLETE;
-use crate::session_calls::{DATA, JOURNAL, Memory, SYMBOL, Seen, Step};
+use crate::session_calls::{DATA, JOURNAL, Level, Memory, SYMBOL, Seen, Step, place_of};
 use crate::signals::CELLS;
 use crate::sys::{SaltSession, SaltUnpacked};
 use crate::words::{WORD, owed, refused};
@@ -47,23 +47,26 @@ impl Side for Ours {
             }
             Step::Reset => (0, 0, call::session_reset(before)),
             Step::Hand { count, one, other } => (0, 0, handed(before, *count, *one, *other)),
+            Step::HandFrame { frames, behind } => (0, 0, SaltSession { frames: *frames, behind: *behind, ..before }),
         };
         self.session = after;
-        let all_bits = number == 0 && !matches!(step, Step::Hand { .. });
+        let all_bits = number == 0 && !step.is_hand();
         let bits = std::array::from_fn(|place| if all_bits || place < after.count { after.bits[place].min(1) } else { 0 });
         let prev = std::array::from_fn(|place| {
             let cell = after.prev[place / 2];
             pattern(if place % 2 == 0 { cell.re } else { cell.im })
         });
         let kept = number == 0 || same(&after, &before);
-        Seen { number, bit, kept, count: after.count, bits, prev, phase: call::session_phase(after), word: call::session_word(after) }
+        let (phase, word) = (call::session_phase(after), call::session_word(after));
+        Seen { number, bit, kept, frames: after.frames, behind: after.behind != 0, count: after.count, bits, prev, phase, word }
     }
 }
 
 /// Whether two sessions have the same bits.
 fn same(one: &SaltSession, other: &SaltSession) -> bool {
     let numbers = |session: &SaltSession| session.prev.map(|cell| [cell.re.to_bits(), cell.im.to_bits()]);
-    one.bits == other.bits && one.count == other.count && numbers(one) == numbers(other)
+    let counts = |session: &SaltSession| (session.count, session.frames, session.behind);
+    one.bits == other.bits && counts(one) == counts(other) && numbers(one) == numbers(other)
 }
 
 /// The state with another count where 68 stand, other previous cells where none does, another byte for each bit of 1, and one for each bit that
@@ -118,28 +121,46 @@ struct Standing {
 /// A symbol of zeros, to move the extractor on.
 static ZEROS: [Complex32; SYMBOL / 2] = [Complex32::new(0.0, 0.0); SYMBOL / 2];
 
-/// orion-sdr's side: the symbols that stand, the count that was handed in where 68 do, and the previous cells where none does.
+/// orion-sdr's side: the symbols that stand since the reset, or since a frame count was handed in those of that frame; the count that was handed in where
+/// 68 stand, the frame count that was, and the previous cells where none stands.
 pub struct Theirs<'a> {
     orion: &'a mut Orion,
     afresh: bool,
     standing: Vec<Standing>,
+    level: Level,
     handed: Option<usize>,
+    handed_frames: Option<usize>,
     none: Complex32,
     bins: [usize; CELLS / 2],
 }
 
 impl<'a> Theirs<'a> {
-    /// A side on which no symbol stands. Where `afresh`, the extractor extracts all standing symbols again at each call, and else as many symbols
-    /// of zeros as there are standing ones beyond whole rounds of four.
+    /// A side on which no symbol stands. Where `afresh`, the extractor extracts and the decoder is fed all standing symbols again at each call, and else
+    /// as many symbols of zeros as there are standing ones beyond whole rounds of four, and those of the current frame.
     pub fn new(orion: &'a mut Orion, afresh: bool) -> Self {
         orion.extract(std::iter::empty());
         orion.decode(&[]);
-        Self { orion, afresh, standing: vec![], handed: None, none: Complex32::default(), bins: tps_carrier_bins() }
+        let (level, none, bins) = (Level::default(), Complex32::default(), tps_carrier_bins());
+        Self { orion, afresh, standing: vec![], level, handed: None, handed_frames: None, none, bins }
     }
 
-    /// Document 01's number for a call.
-    pub fn number(&self, step: &Step) -> u8 {
-        step.number(self.standing.len())
+    /// Feeds the decoder, which is reset at each frame, the standing symbols.
+    fn decode_standing(&mut self) {
+        let current = self.standing.len() - self.level.standing;
+        if self.afresh {
+            self.standing[..current].chunks(WORD).for_each(|frame| self.orion.decode(frame));
+        }
+        self.orion.decode(&self.standing[current..]);
+    }
+
+    /// Takes the latest symbol back. Where a frame count was handed in and none stands any more, the frame before is what the journal has.
+    fn step_back(&mut self, memory: &Memory) {
+        self.standing.pop();
+        if self.standing.is_empty() && self.level.is_first_of_later() {
+            let places = memory.places(self.level.frames - 1, WORD).chunks_exact(CELLS).map(cells);
+            let zeros = if self.afresh { ZEROS.to_vec() } else { vec![] };
+            self.standing = places.map(|place| Standing { cells: place.try_into().expect("a place"), symbol: zeros.clone() }).collect();
+        }
     }
 
     /// Brings the extractor behind the standing symbols.
@@ -159,7 +180,8 @@ impl<'a> Theirs<'a> {
         self.extract_standing();
         self.orion.extractor.extract_symbol(&symbol, &mut self.orion.data);
         put(output, &self.orion.data);
-        put(&mut journal[self.standing.len() * CELLS..], &tps);
+        let after = if self.level.standing == WORD { place_of(self.level.frames + 1, 0) } else { place_of(self.level.frames, self.level.standing) };
+        put(&mut journal[after..], &tps);
         self.standing.push(Standing { cells: tps, symbol: if self.afresh { symbol } else { vec![] } });
     }
 
@@ -178,12 +200,12 @@ fn put(floats: &mut [f32], cells: &[Complex32]) {
 }
 
 impl Side for Theirs<'_> {
-    /// Makes the call where it isn't refused; the decoder is then fed all standing symbols again.
+    /// Makes the call where it isn't refused; the decoder is then fed the standing symbols again.
     fn call(&mut self, step: &Step, memory: &mut Memory) -> Seen {
-        let number = self.number(step);
+        let number = step.number(self.level);
         let fed = number == 0 && matches!(step, Step::Feed(_));
-        if number == 0 {
-            (self.handed, self.none) = (None, Complex32::default());
+        if number == 0 && !step.is_hand() {
+            (self.handed, self.handed_frames, self.none) = (None, None, Complex32::default());
         }
         match step {
             _ if number != 0 => (),
@@ -191,20 +213,22 @@ impl Side for Theirs<'_> {
                 let (symbol, output, journal) = memory.lent(feed);
                 self.feed(symbol, output, journal);
             }
-            Step::StepBack(_) => {
-                self.standing.pop();
-                self.extract_standing();
-            }
-            Step::Reset => {
-                self.standing.clear();
-                self.extract_standing();
-            }
+            Step::StepBack(_) => self.step_back(memory),
+            Step::Reset => self.standing.clear(),
             Step::Hand { count, .. } => {
-                self.handed = (self.standing.len() == WORD).then_some(*count);
+                self.handed = (self.level.standing == WORD).then_some(*count);
                 self.none = Complex32::new(HANDED.re, HANDED.im);
             }
+            Step::HandFrame { frames, .. } => {
+                self.handed_frames = Some(*frames);
+                self.standing.drain(..self.standing.len() - self.level.standing);
+            }
         }
-        self.orion.decode(&self.standing);
+        self.level = self.level.after(step);
+        if number == 0 && !fed {
+            self.extract_standing();
+        }
+        self.decode_standing();
         let standing = self.orion.decoder.bits();
         let bit = if fed { standing[standing.len() - 1] } else { 0 };
         let mut bits = [0; WORD];
@@ -212,6 +236,7 @@ impl Side for Theirs<'_> {
         let last = self.standing.last().map_or([self.none; CELLS / 2], |standing| standing.cells);
         let prev = std::array::from_fn(|place| pattern(if place % 2 == 0 { last[place / 2].re } else { last[place / 2].im }));
         let (count, phase) = (self.handed.unwrap_or(standing.len()), self.orion.extractor.phase());
-        Seen { number, bit, kept: true, count, bits, prev, phase, word: self.word() }
+        let (frames, behind) = (self.handed_frames.unwrap_or(self.level.frames), self.level.begun > self.level.frames);
+        Seen { number, bit, kept: true, frames, behind, count, bits, prev, phase, word: self.word() }
     }
 }

@@ -10,6 +10,8 @@ use orion_sdr::waveform::dvb_t::{GuardInterval, ScatteredPilotExtractor, Scatter
 const SYMBOL: usize = 2048;
 /// Data cells of a symbol.
 const DATA: usize = 1512;
+/// Symbols of a frame.
+const FRAME: usize = 68;
 /// The byte of a script that steps back; a lower one feeds the symbol of its number.
 const STEP_BACK: u8 = 254;
 /// The byte of a script that resets.
@@ -61,33 +63,40 @@ pub fn mapped(lines: &mut Lines) {
     }
 }
 
-/// The symbols that stand behind a script.
-fn standing(script: &[u8]) -> Vec<u8> {
-    let mut symbols = vec![];
+/// The symbols that stand behind a script, frame by frame: a step back does nothing where none stands and, once a third frame has begun, where one
+/// stands in the frame before the furthest begun.
+fn standing(script: &[u8]) -> Vec<Vec<u8>> {
+    let (mut frames, mut begun) = (vec![vec![]], 0);
     for call in script {
+        let (current, many) = (frames.len() - 1, frames[frames.len() - 1].len());
         match *call {
-            RESET => symbols.clear(),
-            STEP_BACK => drop(symbols.pop()),
-            number => symbols.push(number),
+            RESET => (frames, begun) = (vec![vec![]], 0),
+            STEP_BACK if begun >= 2 && current + 1 == begun && many == 1 => (),
+            STEP_BACK if current > 0 && many == 1 => drop(frames.pop()),
+            STEP_BACK => drop(frames[current].pop()),
+            number if many == FRAME => frames.push(vec![number]),
+            number => frames[current].push(number),
         }
+        begun = begun.max(frames.len() - 1);
     }
-    symbols
+    frames
 }
 
-/// What orion-sdr's extractor and decoder give, each run afresh on symbols: the last one's data, the phase in which it is read, its bit, how many
-/// symbols stand, and their bits in the room of 68.
-fn afresh(to_extract: &[u8], to_decode: &[u8]) -> Vec<u8> {
+/// What orion-sdr's extractor and decoder give, each run afresh on symbols, the decoder on those of the last frame: the last one's data, the phase in
+/// which it is read, its bit, how many symbols stand, how many frames are before, and the bits in the room of 68.
+fn afresh(to_extract: &[u8], to_decode: &[u8], frames: u8) -> Vec<u8> {
     let (phase, data) = extracted(to_extract);
     let tps = to_decode.iter().map(|number| tps_carrier_bins().map(|bin| ruled(*number)[bin])).collect::<Vec<_>>();
     let mut bits = received(&tps);
     let mut answer = patterns(&floats(&data), pattern);
-    answer.extend([phase, *bits.last().expect("a symbol that stands"), bits.len() as u8]);
-    bits.resize(68, 0);
+    answer.extend([phase, *bits.last().expect("a symbol that stands"), bits.len() as u8, frames]);
+    bits.resize(FRAME, 0);
     answer.extend(bits);
     answer
 }
 
-/// Scripts that end with a feed: feeds alone, steps back, resets, steps back where none stands, and up to 68 symbols.
+/// Scripts that end with a feed: feeds alone, steps back, resets, steps back where none stands, up to 68 symbols; over a frame's beginning and back
+/// into the frame before, and as far back as three frames allow and on again.
 fn scripts() -> Vec<Vec<u8>> {
     let mut scripts: Vec<Vec<u8>> = [
         &[0][..], &[1], &[0, 1], &[0, 1, 2, 3, 4], &[0, STEP_BACK, 1], &[STEP_BACK, 2], &[0, 1, STEP_BACK, 2], &[0, 1, 2, STEP_BACK, 3],
@@ -96,24 +105,27 @@ fn scripts() -> Vec<Vec<u8>> {
     ].map(<[u8]>::to_vec).to_vec();
     scripts.push((100..168).collect());
     scripts.push((0..68).chain([STEP_BACK; 3]).chain(70..72).chain([STEP_BACK, 253]).collect());
+    scripts.push((0..70).chain([STEP_BACK; 3]).chain([200]).collect());
+    scripts.push((0..138).chain([STEP_BACK; 75]).chain(140..209).collect());
     scripts
 }
 
 /// The scripts; then the fault of June, a feed behind a step back read in the phase of the symbol that was taken back, whole and by its parts.
 pub fn session(lines: &mut Lines) {
     for script in scripts() {
-        let symbols = standing(&script);
-        lines.answer("Session", 0, &script, Some(&afresh(&symbols, &symbols)));
+        let frames = standing(&script);
+        let before = frames.len() - 1;
+        lines.answer("Session", 0, &script, Some(&afresh(&frames.concat(), &frames[before], before as u8)));
     }
     let script = [0, 1, STEP_BACK, 2];
-    let right = afresh(&[0, 2], &[0, 2]);
-    let phase_kept = afresh(&[0, 1, 2], &[0, 2]);
-    let cells_kept = afresh(&[0, 2], &[1, 2]);
+    let right = afresh(&[0, 2], &[0, 2], 0);
+    let phase_kept = afresh(&[0, 1, 2], &[0, 2], 0);
+    let cells_kept = afresh(&[0, 2], &[1, 2], 0);
     let data_only = [&phase_kept[..8 * DATA], &right[8 * DATA..]].concat();
     let (phase, bit) = (8 * DATA, 8 * DATA + 1);
     assert!(right[phase] == 1 && phase_kept[phase] == 2 && right[..phase] != phase_kept[..phase] && right[bit] == 0 && cells_kept[bit] == 1);
     for wrong in [phase_kept, data_only, cells_kept] {
         lines.wrong("Session", 0, &script, 0, &wrong);
     }
-    lines.turned("Session", 0, &script, &right, 8 * (8 * DATA + 3) + 7);
+    lines.turned("Session", 0, &script, &right, 8 * (8 * DATA + 4) + 7);
 }

@@ -44,7 +44,8 @@ mod sizes {
     pub const SALT_TPS_CODEWORD_BITS: usize = 67;
     pub const SALT_NO_PLACE: u8 = 255;
     pub const SALT_TPS_WORD_BITS: usize = 68;
-    pub const SALT_JOURNAL_FLOATS: usize = 2312;
+    pub const SALT_JOURNAL_FLOATS: usize = 4624;
+    pub const SALT_LAST_FRAME: usize = 1000000;
     pub const SALT_LINE_DIGITS: usize = 17;
     pub const SALT_HEADING_BYTES: usize = 41;
     pub const SALT_LINE_ROOM: usize = 60;
@@ -356,6 +357,8 @@ pub struct SaltSession {
     pub prev: [SaltCell; 17],
     pub bits: [u8; 68],
     pub count: usize,
+    pub frames: usize,
+    pub behind: u8,
 }
 
 #[repr(C)]
@@ -456,11 +459,11 @@ extern "C" {
 // ---- The layout
 
 extern "C" {
-    pub fn salt_layout_1236aa04() -> u32;
+    pub fn salt_layout_7188a159() -> u32;
 }
 
 /// Refers to the layout, so that nothing links with an archive of another one; it is called as a program starts, since
 /// a linker drops nothing of what is.
 #[used]
 #[link_section = ".init_array"]
-static LAYOUT: unsafe extern "C" fn() -> u32 = salt_layout_1236aa04;
+static LAYOUT: unsafe extern "C" fn() -> u32 = salt_layout_7188a159;

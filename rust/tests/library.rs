@@ -347,7 +347,6 @@ fn a_session_steps_back_to_where_it_was() {
     }
     assert_eq!((session.bits(), session.word()), (&WORD.pack()[..], Ok(WORD)));
     assert_eq!(session.word_mended(), Ok((WORD, Mended::default())));
-    assert_eq!(session.feed(&symbol, &mut out), Err(Refusal::Full));
     let copy = session.clone();
     for n in (0..68).rev() {
         session.step_back().unwrap();
@@ -355,6 +354,34 @@ fn a_session_steps_back_to_where_it_was() {
     }
     session.reset();
     assert_eq!((session.step_back(), copy.word()), (Err(Refusal::Empty), Ok(WORD)));
+}
+
+#[test]
+fn a_session_steps_back_into_the_frame_before() {
+    let (mut session, mut out) = (Session::new(), vec![ZERO; 1512]);
+    let symbols: Vec<_> = (0..206).map(|n| cells(2048 + n).split_off(n)).collect();
+    let mut shown = vec![];
+    for symbol in &symbols[..206] {
+        shown.push(session.clone());
+        session.feed(symbol, &mut out).unwrap();
+    }
+    assert_eq!((session.frame(), session.len(), session.phase()), (3, 2, 2));
+    // Back over the beginning of frame 3 to the first symbol of frame 2, which is the last that can be gone back to.
+    for n in (2 * 68 + 1..206).rev() {
+        session.step_back().unwrap();
+        let then = &shown[n];
+        // With 68 standing the next symbol's frame isn't begun yet.
+        assert_eq!((session.frame(), session.len(), session.bits(), session.phase()), (then.frame(), then.len(), then.bits(), then.phase()));
+        assert_eq!(session.word(), then.word());
+    }
+    assert_eq!((session.frame(), session.len(), session.step_back()), (2, 1, Err(Refusal::Empty)));
+    // And on again, over the same beginning.
+    for symbol in &symbols[2 * 68 + 1..206] {
+        session.feed(symbol, &mut out).unwrap();
+    }
+    assert_eq!((session.frame(), session.len()), (3, 2));
+    session.reset();
+    assert_eq!((session.frame(), session.len(), session.step_back()), (0, 0, Err(Refusal::Empty)));
 }
 
 /// The line of a word.

@@ -11,9 +11,10 @@ static float symbols[SALT_TPS_WORD_BITS][SALT_SYMBOL_FLOATS], data[SALT_TPS_WORD
 static uint8_t bits[SALT_TPS_WORD_BITS];
 static SaltSession before[SALT_TPS_WORD_BITS + 1];
 
-/* Whether two sessions are the same; between bits and count there may be unused bytes. */
+/* Whether two sessions are the same; between and behind their parts there may be unused bytes. */
 static int same_session(const SaltSession *a, const SaltSession *b) {
-    return memcmp(a->prev, b->prev, sizeof a->prev) == 0 && memcmp(a->bits, b->bits, sizeof a->bits) == 0 && a->count == b->count;
+    return memcmp(a->prev, b->prev, sizeof a->prev) == 0 && memcmp(a->bits, b->bits, sizeof a->bits) == 0 && a->count == b->count
+        && a->frames == b->frames && a->behind == b->behind;
 }
 
 /* Makes the symbols: noise on the data carriers, and the word's cells on the TPS carriers. */
@@ -71,10 +72,32 @@ static void back_to_the_start(Lent *journal) {
     CHECK(salt_session_step_back(session, journal->at, journal->length - 1).number == SALT_OUTPUT_SHORT);
 }
 
-/* A full session: its word, and what it refuses, in 01's order; and one whose count is past 68. */
+/* Feeds over the frame's end and goes back over it: the next frame stands in the other half, and nothing else is written. */
+static void over_the_end(Lent *journal) {
+    float out[SALT_DATA_FLOATS];
+    const size_t half = SALT_JOURNAL_FLOATS / 2;
+    SaltSession session = before[SALT_TPS_WORD_BITS];
+    memcpy(journal->was, journal->at, journal->length * journal->width);
+    SaltSessionFed fed = salt_session_feed(session, symbols[0], SALT_SYMBOL_FLOATS, out, SALT_DATA_FLOATS, journal->at, journal->length);
+    CHECK(fed.number == SALT_ACCEPTED && fed.bit == bits[0] && memcmp(out, data[0], sizeof data[0]) == 0);
+    CHECK(fed.session.count == 1 && fed.session.frames == 1 && fed.session.behind == 0 && salt_session_phase(fed.session) == 1);
+    CHECK(salt_session_word(fed.session).number == SALT_INCOMPLETE);
+    CHECK(memcmp(journal->at, journal->was, half * sizeof(float)) == 0);
+    CHECK(memcmp((float *)journal->at + half, journal->at, SALT_TPS_FLOATS * sizeof(float)) == 0 && unchanged_from(journal, half + SALT_TPS_FLOATS));
+    SaltSessionStepped stepped = salt_session_step_back(fed.session, journal->at, journal->length);
+    session.behind = 1;
+    CHECK(stepped.number == SALT_ACCEPTED && same_session(&stepped.session, &session) && salt_session_word(stepped.session).number == SALT_ACCEPTED);
+    fed.session.behind = 9;
+    stepped = salt_session_step_back(fed.session, journal->at, journal->length);
+    CHECK(stepped.number == SALT_EMPTY && same_session(&stepped.session, &fed.session));
+}
+
+/* A full session: its word, and what it refuses, in 01's order; and one whose counts are past 68 and 1,000,000. */
 static void full(Lent *journal) {
     float out[SALT_DATA_FLOATS] = {0};
     SaltSession session = before[SALT_TPS_WORD_BITS];
+    memcpy(journal->was, journal->at, journal->length * journal->width);
+    session.frames = SALT_LAST_FRAME;
     SaltUnpacked read = salt_session_word(session);
     CHECK(read.number == SALT_ACCEPTED && memcmp(&read.word, &word, sizeof word) == 0 && read.mended == 0 && read.first == SALT_NO_PLACE);
     SaltSessionFed refused = salt_session_feed(session, symbols[0], SALT_SYMBOL_FLOATS, out, SALT_DATA_FLOATS, journal->at, journal->length);
@@ -83,8 +106,11 @@ static void full(Lent *journal) {
     CHECK(salt_session_feed(session, symbols[0], SALT_SYMBOL_FLOATS, out, 0, journal->at, 0).number == SALT_OUTPUT_SHORT);
     CHECK(salt_session_feed(session, symbols[0], SALT_SYMBOL_FLOATS - 1, out, 0, journal->at, 0).number == SALT_LENGTH);
     session.count = SIZE_MAX;
+    session.frames = SIZE_MAX;
+    CHECK(salt_session_feed(session, symbols[0], SALT_SYMBOL_FLOATS, out, SALT_DATA_FLOATS, journal->at, journal->length).number == SALT_FULL);
     CHECK(salt_session_phase(session) == 0 && salt_session_word(session).number == SALT_ACCEPTED);
     SaltSessionStepped stepped = salt_session_step_back(session, journal->at, journal->length);
+    before[SALT_TPS_WORD_BITS - 1].frames = SALT_LAST_FRAME;
     CHECK(stepped.number == SALT_ACCEPTED && same_session(&stepped.session, &before[SALT_TPS_WORD_BITS - 1]));
     session = salt_session_reset(session);
     CHECK(same_session(&session, &before[0]));
@@ -102,6 +128,7 @@ void test_session(void) {
     make_symbols();
     feed_all(&journal);
     back_to_the_start(&journal);
+    over_the_end(&journal);
     full(&journal);
     same_cells();
     give_back(&journal);

@@ -52,6 +52,26 @@ either-decides {s = false} d e =
       fails = (λ x. (d .fails .0 refl, e .fails .0 x), λ x. e .fails .1 (x .1));
     }
 
+pub both-decides : {s t : Bool} {P Q R S : Type 0} → Decides s P Q → Decides t R S → Decides (s && t) (P × R) (Q ⊎ S)
+both-decides {s = true} d e =
+    record {
+      holds = (λ x. (d .holds .0 refl, e .holds .0 x), λ x. e .holds .1 (x .1));
+      fails = (λ x. inr (e .fails .0 x), ⊎-elim (λ q. absurd (true≢false (d .fails .1 q))) (e .fails .1));
+    }
+both-decides {s = false} d e =
+    record {
+      holds = (λ x. absurd (false≢true x), λ x. absurd (false≢true (d .holds .1 (x .0))));
+      fails = (λ x. inl (d .fails .0 refl), λ x. refl);
+    }
+
+-- a number is at most another, or above it
+pub at-most : (k n : ℕ) → (k ≤ n) ⊎ (n < k)
+at-most k n = by (leb k n) refl
+  where
+    by : (b : Bool) → leb k n ≡ b → (k ≤ n) ⊎ (n < k)
+    by true e = inl (leb-true k n e)
+    by false e = inr (leb-false k n e)
+
 -- ---- the number of a call
 
 -- n is neither 0 nor given by a test of the list

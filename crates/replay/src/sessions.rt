@@ -1,18 +1,29 @@
 // The case of the receive session: a script of calls on a new session, a byte each, where 255 resets, 254 steps back,
 // and any lower byte feeds the symbol of its number. The answer is what the last feed gives, which is its data, its
-// phase, its bit and how many symbols stand, and all bits.
+// phase, its bit, how many symbols stand and how many frames are before, and all bits.
 use ground::Counted;
 use session::Session;
 use tps::TpsBit;
 
-// Lays the phase in which a symbol is fed, its bit, or 255, and how many symbols stand then.
-fn put_fed(phase: usize, answer: TpsBit, standing: usize, room: &mut [u8; 16384]) -> Counted {
+// Lays the phase in which a symbol is fed, its bit, or 255, and how many symbols stand and frames are before then.
+fn put_fed(
+    phase: usize,
+    answer: TpsBit,
+    standing: usize,
+    frames: usize,
+    room: &mut [u8; 16384],
+) -> Counted {
     let bit = match answer {
         TpsBit::Bit(bit) => bit,
         TpsBit::Refused(_) => 255,
     };
     stored::inner::lay(
-        &[(phase % 256) as u8, bit, (standing % 256) as u8],
+        &[
+            (phase % 256) as u8,
+            bit,
+            (standing % 256) as u8,
+            (frames % 256) as u8,
+        ],
         12096,
         room,
     )
@@ -31,7 +42,7 @@ fn fed(
     let answer = fed.answer;
     let after = fed.session;
     stored::inner::lay_floats(&data, 0, room);
-    put_fed(session.phase(), answer, after.count, room);
+    put_fed(session.phase(), answer, after.count, after.frames, room);
     after
 }
 
@@ -55,7 +66,7 @@ fn called(
 
 // Lays all bits.
 fn put_bits(bits: [u8; 68], room: &mut [u8; 16384]) -> Counted {
-    stored::inner::lay(&bits, 12099, room)
+    stored::inner::lay(&bits, 12100, room)
 }
 
 // Session.

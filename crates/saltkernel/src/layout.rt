@@ -6,8 +6,8 @@ ghost use mathlib.Core.Path.{_≡_};
 
 // The number of the layout.
 #[no_mangle]
-pub extern "C" fn salt_layout_1236aa04() -> u32
-    ensures { λ r. ⌜ r ≡ 305572356 ⌝ }
+pub extern "C" fn salt_layout_7188a159() -> u32
+    ensures { λ r. ⌜ r ≡ 1904779609 ⌝ }
 {
-    305572356
+    1904779609
 }

@@ -1,7 +1,9 @@
 // The receive session.
-// The extractor and the TPS decoder joined, with a journal that steps back. With n symbols standing the phase is n mod
-// 4, and place n of the journal, 34 floats from 34 n on, is the next symbol's. The caller lends one journal for each
-// session, always the same, and writes nothing to it in between.
+// The extractor and the TPS decoder joined, with a journal of two frames that steps back. With n symbols standing in
+// frame c, the frames since the reset being counted from 0, the phase is n mod 4, and the 34 floats of the journal from
+// 2,312 (c mod 2) + 34 n on are the next symbol's. A feed with 68 standing begins the next frame, and the frame before
+// the previous one can't be gone back to any more. The caller lends one journal for each session, always the same, and
+// writes nothing to it in between.
 ghost use mathlib.Core.Path.{_≡_};
 ghost use Rattle.carriers.specs.Mode.{mode2k};
 ghost use Rattle.session.specs.Session.{fresh, nextPhase, feedAnswer, feedDataLeaves, feedJournalLeaves};
@@ -29,7 +31,7 @@ pub struct SaltSessionStepped {
     pub session: Session,
 }
 
-// A session with no symbol standing; its journal may hold anything.
+// A session with no symbol standing, in frame 0; its journal may hold anything.
 #[no_mangle]
 pub extern "C" fn salt_session_new() -> Session
     ensures { λ r. ⌜ r ≡ fresh mode2k ⌝ }
@@ -46,9 +48,9 @@ pub extern "C" fn salt_session_reset(session: Session) -> Session
 }
 
 // Takes one symbol: its 1,512 data cells to the output, its 17 TPS cells to their place of the journal, both in rising
-// active order, and its TPS bit.
+// active order, and its TPS bit. With 68 standing it is the first symbol of the next frame.
 // Refusals: 1 LENGTH (fewer than 4,096 floats of symbol), 3 OUTPUT SHORT (room for fewer than 3,024 floats, or a
-// journal under 2,312), 6 FULL.
+// journal under 4,624), 6 FULL (68 stand and 1,000,000 frames are before them).
 #[no_mangle]
 pub extern "C" fn salt_session_feed(
     session: Session,
@@ -80,8 +82,10 @@ pub extern "C" fn salt_session_feed(
     }
 }
 
-// Takes the latest standing symbol back; the journal is only read.
-// Refusals: 3 OUTPUT SHORT (a journal under 2,312), 7 EMPTY.
+// Takes the latest standing symbol back; the first of a later frame leaves the 68 of the frame before standing. The
+// journal is only read.
+// Refusals: 3 OUTPUT SHORT (a journal under 4,624), 7 EMPTY (none stands; or a third frame was begun, the current one is
+// the one before the furthest begun, and one symbol stands in it).
 #[no_mangle]
 pub extern "C" fn salt_session_step_back(session: Session, journal: &[f32]) -> SaltSessionStepped
     ensures { λ r. ⌜ SaysStepped r (stepBackAnswer mode2k session (now (journal .entry))) ⌝ }
@@ -109,7 +113,7 @@ pub extern "C" fn salt_session_phase(session: Session) -> usize
     session.phase()
 }
 
-// The word of 68 standing symbols.
+// The word of the 68 standing symbols of the current frame.
 // Refusals: 8 INCOMPLETE, 4 NO WORD, 5 RESERVED.
 #[no_mangle]
 pub extern "C" fn salt_session_word(session: Session) -> SaltUnpacked

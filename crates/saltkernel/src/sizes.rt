@@ -50,8 +50,10 @@ pub const TPS_CODEWORD_BITS: usize = 67;
 pub const NO_PLACE: u8 = 255;
 // A zero bit s0 and the codeword; the symbols of a frame are as many.
 pub const TPS_WORD_BITS: usize = 68;
-// A session's journal: the TPS cells of 68 symbols.
-pub const JOURNAL_FLOATS: usize = 2312;
+// A session's journal: the TPS cells of the 68 symbols of two frames.
+pub const JOURNAL_FLOATS: usize = 4624;
+// The largest count of frames before a session's current one.
+pub const LAST_FRAME: usize = 1000000;
 
 // A line of the report's input: the 68 bits of a word, four a digit.
 pub const LINE_DIGITS: usize = 17;

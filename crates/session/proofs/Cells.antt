@@ -3,7 +3,7 @@
 use mathlib.Core.Path.{_≡_, refl, sym, ap, ap₂, _∙_}
 use mathlib.Core.List.{List, [], _∷_, _++_}
 use Prim.Native.Nat.{ℕ, _+_, _*_}
-use native.Mathlib.Nat.{suc-mul}
+use native.Mathlib.Nat.{zero-mul, suc-mul}
 use native.Mathlib.Omega.{arith}
 use lib.Ieee.{Float}
 use lib.ListN.{length, take, drop, length-append, length-map}
@@ -17,7 +17,7 @@ use Rattle.carriers.proofs.Bins.{tps-bins-many}
 use Rattle.grid.specs.Symbol.{cellsAt}
 use Rattle.tps.specs.Receive.{firstCells}
 use Rattle.tps.proofs.FirstCells.{cells-length, cells-back, cells-flat}
-use Rattle.session.specs.Journal.{tpsCells, place, placeOf, placesIn}
+use Rattle.session.specs.Journal.{tpsCells, place, placesIn}
 use Rattle.session.specs.History.{cellsOf, row}
 use Rattle.session.proofs.Journal.{cells-kept, last-place}
 
@@ -46,6 +46,10 @@ module _ (w : ℕ) where
   row-length [] p = omega arith
   row-length (c ∷ cs) p = simp (length-append, row-length cs (p .1), p .0) (omega arith)
 
+  pub row-none : (j : List Float) → take (0 * w) j ≡ row []
+  unfolding row
+  row-none j = ap (λ (k : ℕ). take k j) (zero-mul w)
+
   module _ (c : List Float) (cs : List (List Float)) (j : List Float) (p : Placed w (c ∷ cs)) (e : take (length (c ∷ cs) * w) j ≡ row (c ∷ cs)) where
     row-ends : take (length cs * w + w) j ≡ row cs ++ c
     unfolding row
@@ -58,7 +62,7 @@ module _ (w : ℕ) where
     row-last = last-place w j (row cs) c (length cs * w) row-ends (row-length cs (p .1))
 
 -- the places of a journal that begins with the cells in a row are the cells
-pub places-row : (m : Mode) (cs : List (List Float)) (j : List Float) → Placed (place m) cs → take (placeOf m (length cs)) j ≡ row cs
+pub places-row : (m : Mode) (cs : List (List Float)) (j : List Float) → Placed (place m) cs → take (length cs * place m) j ≡ row cs
     → placesIn m (length cs) j ≡ cs
 unfolding placesIn
 places-row m [] j p e = refl

@@ -1,11 +1,13 @@
 pub mod Numbers
-pub mod Places
-pub mod Calls
-pub mod Cases
-pub mod Determined
 pub mod Journal
 pub mod Cells
+pub mod Places
 pub mod Decoder
+pub mod Frames
+pub mod Calls
+pub mod Determined
+pub mod Treated
+pub mod Cases
 pub mod Holding
 pub mod OneCall
 pub mod History
@@ -16,3 +18,5 @@ pub mod Demand
 pub mod Runs
 pub mod Undone
 pub mod Refusals
+pub mod Boundary
+pub mod Analyst

@@ -11,7 +11,7 @@ use Rattle.session.specs.declared.Session.{Session}
 use Rattle.session.specs.declared.Fed.{Fed}
 use Rattle.session.specs.declared.SteppedBack.{SteppedBack}
 use Rattle.session.specs.Journal.{tpsCells, inPlace}
-use Rattle.session.specs.Session.{standing, fresh, feedNoOf, fedBy, fedRefused, feedAnswer, feedDataLeaves, feedJournalLeaves, stepBackAnswer}
+use Rattle.session.specs.Session.{standing, frameOf, fresh, feedNoOf, openOf, fedBy, fedRefused, feedAnswer, feedDataLeaves, feedJournalLeaves, stepBackAnswer}
 use Rattle.session.specs.History.{Op, feed, back, reset, Call, Run, start, next}
 
 pub runs : (m : Mode) (j₀ : List Float) (os : List Op) → (s : Session) × (j : List Float) × Run m j₀ os s j
@@ -47,11 +47,15 @@ module _ (m : Mode) (s : Session) (y p d d′ : List Float) (n : length d ≡ le
   same-answers : feedAnswer m s y d p ≡ feedAnswer m s y d′ p
   same-answers =
       ap
-      (λ (k : ℕ). kept (feedNoOf m (length y) k (length p) (standing s)) (fedBy m s (tpsCells m y)) (fedRefused (feedNoOf m (length y) k (length p) (standing s)) s))
+      (λ (k : ℕ).
+      kept (feedNoOf m (length y) k (length p) (frameOf s) (standing s)) (fedBy m (openOf m s) (tpsCells m y))
+      (fedRefused (feedNoOf m (length y) k (length p) (frameOf s) (standing s)) s))
       n
 
   same-journals : feedJournalLeaves m s y d p ≡ feedJournalLeaves m s y d′ p
-  same-journals = ap (λ (k : ℕ). kept (feedNoOf m (length y) k (length p) (standing s)) (inPlace m (standing s) (tpsCells m y) p) p) n
+  same-journals =
+      ap
+      (λ (k : ℕ). kept (feedNoOf m (length y) k (length p) (frameOf s) (standing s)) (inPlace m (openOf m s .frames) (openOf m s .count) (tpsCells m y) p) p) n
 
 -- two calls that meet one promise lead to the same session and journal
 same-call : (m : Mode) (o : Op) (s : Session) (j : List Float) {s₁ s₂ : Session} {j₁ j₂ : List Float} → Call m o s j s₁ j₁ → Call m o s j s₂ j₂

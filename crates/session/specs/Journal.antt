@@ -1,7 +1,7 @@
--- Document 01, 'Receive session': the journal has a place for the TPS cells of each symbol of a frame, and the cells in
--- its used places say what the session holds.
+-- Document 01, 'Receive session', with document 02's E8: the journal keeps two frames, frame c in half c mod 2, with a
+-- place for the TPS cells of each symbol, and the cells in the used places of a half say what the session holds there.
 use mathlib.Core.List.{List, [], _∷_, _++_}
-use Prim.Native.Nat.{ℕ, zero, suc, _+_, _*_}
+use Prim.Native.Nat.{ℕ, zero, suc, _+_, _*_, _%_}
 use lib.Ieee.{Float}
 use lib.ListN.{take, drop, replicate}
 use Rattle.ground.specs.declared.Cell.{Cell}
@@ -23,25 +23,29 @@ module _ (m : Mode) where
   place = tpsSize m
 
   abbrev pub journalSize : ℕ
-  journalSize = SYMBOLS * place
+  journalSize = 2 * SYMBOLS * place
 
-  -- where the place of symbol n begins
-  abbrev pub placeOf : ℕ → ℕ
-  placeOf n = n * place
+  -- where the place of symbol n of frame c begins
+  abbrev pub placeOf : ℕ → ℕ → ℕ
+  placeOf c n = (c % 2 * SYMBOLS + n) * place
 
-  -- the cells c in the place of symbol n
-  unfoldable pub inPlace : ℕ → List Float → List Float → List Float
-  inPlace n c journal = take (placeOf n) journal ++ (c ++ drop (placeOf n + place) journal)
+  -- the cells t in that place
+  unfoldable pub inPlace : ℕ → ℕ → List Float → List Float → List Float
+  inPlace c n t journal = take (placeOf c n) journal ++ (t ++ drop (placeOf c n + place) journal)
 
-  -- the previous cells with n standing: those of the latest symbol's place, or +0.0 throughout if none stands
+  -- a journal from the first place of frame c on
+  abbrev pub frameIn : ℕ → List Float → List Float
+  frameIn c journal = drop (placeOf c 0) journal
+
+  -- the previous cells with n standing in a frame: those of the latest one's place, or +0.0 throughout if none stands
   unfoldable pub prevIn : ℕ → List Float → List Cell
-  prevIn zero journal = replicate (m .tpsCount) zeroCell
-  prevIn (suc n) journal = receive.firstCells (m .tpsCount) (drop (placeOf n) journal)
+  prevIn zero frame = replicate (m .tpsCount) zeroCell
+  prevIn (suc n) frame = receive.firstCells (m .tpsCount) (drop (n * place) frame)
 
-  -- the cells in the first n places, the latest first
+  -- the cells in a frame's first n places, the latest first
   unfoldable pub placesIn : ℕ → List Float → List (List Float)
-  placesIn zero journal = []
-  placesIn (suc n) journal = take place (drop (placeOf n) journal) ∷ placesIn n journal
+  placesIn zero frame = []
+  placesIn (suc n) frame = take place (drop (n * place) frame) ∷ placesIn n frame
 
   -- the TPS decoder after feeding it the cells of some symbols, latest first
   unfoldable pub decoderOn : List (List Float) → TpsDecoder

@@ -1,4 +1,5 @@
 pub mod Journal
 pub mod Session
+pub mod Inner
 pub mod History
 pub mod Demand

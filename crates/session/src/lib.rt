@@ -1,4 +1,4 @@
-// The receive session: the extractor and the TPS decoder joined, with a journal that steps back.
+// The receive session: the extractor and the TPS decoder joined, with a journal of two frames that steps back.
 use carriers::DATA_FLOATS;
 use carriers::SYMBOL_FLOATS;
 use carriers::TPS_CARRIER_COUNT;
@@ -10,25 +10,35 @@ use tps::TpsBit;
 use tps::TpsDecoder;
 use tps::Unpacked;
 ghost use mathlib.Core.Path.{_≡_};
-ghost use Prim.Native.Nat.{_≤_, _<_};
+ghost use Prim.Native.Nat.{_-_, _≤_, _<_};
 ghost use lib.ListN.{length};
-ghost use Rattle.carriers.specs.Mode.{mode2k, symbolSize};
+ghost use Rattle.carriers.specs.Mode.{mode2k};
 ghost use Rattle.grid.specs.Calls.{phaseOf, extractLeaves};
 ghost use Rattle.tps.specs.Word.{SYMBOLS};
-ghost use Rattle.session.specs.Journal.{tpsCells, journalSize, placeOf, inPlace, prevIn};
-ghost use Rattle.session.specs.Session.{nextPhase, decoderOf, sessionOf, fresh, fedBy, fedRefused, Feeds};
-ghost use Rattle.session.specs.Session.{stepBackAnswer, Words};
+ghost use Rattle.session.specs.Journal.{journalSize};
+ghost use Rattle.session.specs.Session.{standing, frameOf, nextPhase, decoderOf, sessionIn, startOf};
+ghost use Rattle.session.specs.Session.{fresh, full, fedBy, fedRefused, Feeds};
+ghost use Rattle.session.specs.Session.{crosses, backTo, backOver, steppedRefused, stepBackAnswer, Words};
+ghost use Rattle.session.specs.Inner.{Opened};
 
-// The f32 of a journal: a place for the TPS cells of each symbol of a frame.
-pub const JOURNAL_FLOATS: usize = TPS_SYMBOLS_PER_FRAME * TPS_FLOATS;
+mod halves;
 
-// The session: the previous symbol's TPS cells, the bits, and how many symbols stand. A count above 68 is read as 68,
-// a held bit above 1 as 1, and a bit that doesn't stand as 0.
+// The f32 of a journal: a place for the TPS cells of each symbol of two frames.
+pub const JOURNAL_FLOATS: usize = 2 * TPS_SYMBOLS_PER_FRAME * TPS_FLOATS;
+
+// The largest count of frames before the current one.
+pub const LAST_FRAME: usize = 1000000;
+
+// The session: the previous symbol's TPS cells, the bits and how many symbols stand in the current frame, how many
+// frames are before it since the reset, and whether a later one was begun, which any number but 0 says. A count above
+// 68 is read as 68, one of frames above 1,000,000 as that, a held bit above 1 as 1, and a bit that doesn't stand as 0.
 #[repr(C)]
 pub struct Session {
     pub prev: [Cell; TPS_CARRIER_COUNT],
     pub bits: [u8; TPS_SYMBOLS_PER_FRAME],
     pub count: usize,
+    pub frames: usize,
+    pub behind: u8,
 }
 
 // The TPS bit of a symbol, or the refusal, and the session after the call.
@@ -49,46 +59,6 @@ pub struct SteppedBack {
     pub session: Session,
 }
 
-// The TPS cells of a symbol, in rising active order, re and im in turn.
-fn tps_cells(symbol: &[f32]) -> [f32; TPS_FLOATS]
-    requires { ⌜ symbolSize mode2k ≤ length (now symbol) ⌝ }
-    ensures { λ r. ⌜ r ≡ tpsCells mode2k (now (symbol .entry)) ⌝ }
-{
-    let bins = carriers::inner::tps_carrier_bins();
-    let mut cells = [0.0f32; TPS_FLOATS];
-    grid::inner::gather(&bins, symbol, &mut cells);
-    cells
-}
-
-// Where the place of symbol n of the journal begins.
-fn place_of(n: usize) -> usize
-    requires { ⌜ n ≤ SYMBOLS ⌝ }
-    ensures { λ r. ⌜ r ≡ placeOf mode2k n ⌝ }
-{
-    n * TPS_FLOATS
-}
-
-// A symbol's TPS cells into the place of symbol n of the journal.
-fn put_cells(cells: [f32; TPS_FLOATS], n: usize, journal: &mut [f32])
-    requires { ⌜ (n < SYMBOLS) × (journalSize mode2k ≤ length (now journal)) ⌝ }
-    ensures { λ _. ⌜ now (journal .exit) ≡ inPlace mode2k n cells (now (journal .entry)) ⌝ }
-{
-    let from = place_of(n);
-    ground::inner::copy_cells(&cells, &mut journal[from..from + TPS_FLOATS]);
-}
-
-// The previous cells with n symbols standing, out of the journal.
-fn cells_before(n: usize, journal: &[f32]) -> [Cell; TPS_CARRIER_COUNT]
-    requires { ⌜ (n ≤ SYMBOLS) × (journalSize mode2k ≤ length (now journal)) ⌝ }
-    ensures { λ r. ⌜ r ≡ prevIn mode2k n (now (journal .entry)) ⌝ }
-{
-    if n == 0 {
-        return [Cell { re: 0.0, im: 0.0 }; TPS_CARRIER_COUNT];
-    }
-    let from = place_of(n - 1);
-    tps::inner::first_cells(&journal[from..])
-}
-
 // The data cells of the symbol that is fed with n standing, as the extractor reads them.
 fn extract(n: usize, symbol: &[f32], out: &mut [f32])
     ensures { λ _. ⌜ now (out .exit) ≡ extractLeaves mode2k (phaseOf n) (now (symbol .entry)) (now (out .entry)) ⌝ }
@@ -98,24 +68,31 @@ fn extract(n: usize, symbol: &[f32], out: &mut [f32])
 }
 
 impl Session {
-    // A session at the start of a frame.
+    // A session at the start of its first frame.
     pub fn new() -> Self
         ensures { λ r. ⌜ r ≡ fresh mode2k ⌝ }
     {
-        let decoder = TpsDecoder::new();
-        Session::from_decoder(decoder)
+        Session::start(0)
     }
 
-    // The session at the start of a frame again.
+    // The session at the start of its first frame again.
     pub fn reset(self) -> Self
         ensures { λ r. ⌜ r ≡ fresh mode2k ⌝ }
     {
         Session::new()
     }
 
-    // A TPS decoder as a session.
-    fn from_decoder(decoder: TpsDecoder) -> Self
-        ensures { λ r. ⌜ r ≡ sessionOf decoder ⌝ }
+    // A session at the start of a frame, the furthest begun.
+    fn start(frame: usize) -> Self
+        ensures { λ r. ⌜ r ≡ startOf mode2k frame ⌝ }
+    {
+        let decoder = TpsDecoder::new();
+        Session::from_decoder(frame, 0, decoder)
+    }
+
+    // A TPS decoder as a session in a frame.
+    fn from_decoder(frames: usize, behind: u8, decoder: TpsDecoder) -> Self
+        ensures { λ r. ⌜ r ≡ sessionIn frames behind decoder ⌝ }
     {
         let prev = decoder.prev;
         let bits = decoder.bits;
@@ -123,6 +100,8 @@ impl Session {
             prev,
             bits,
             count: decoder.count,
+            frames,
+            behind,
         }
     }
 
@@ -146,6 +125,18 @@ impl Session {
         tps::inner::standing_count(self.count) % 4
     }
 
+    // Where the next symbol goes: the start of the next frame where 68 stand, else the session itself.
+    fn opened(self) -> Self
+        ensures { λ r. ⌜ Opened mode2k self r ⌝ }
+    {
+        let frames = halves::frame_count(self.frames);
+        if TPS_SYMBOLS_PER_FRAME <= self.count {
+            return Session::start(frames + 1);
+        }
+        let decoder = self.decoder();
+        Session::from_decoder(frames, self.behind, decoder)
+    }
+
     // The answer to a symbol's TPS cells, with the session after it.
     fn take_bit(self, cells: [f32; TPS_FLOATS]) -> Fed
         ensures { λ r. ⌜ r ≡ fedBy mode2k self cells ⌝ }
@@ -153,7 +144,7 @@ impl Session {
         let fed = self.decoder().feed_symbol(&cells);
         let answer = fed.answer;
         let decoder = fed.decoder;
-        let session = Session::from_decoder(decoder);
+        let session = Session::from_decoder(self.frames, self.behind, decoder);
         Fed { answer, session }
     }
 
@@ -165,6 +156,16 @@ impl Session {
             answer: TpsBit::Refused(number),
             session: self,
         }
+    }
+
+    // Whether all of the last frame stands.
+    fn is_full(self) -> bool
+        ensures { λ r. ⌜ r ≡ full (frameOf self) (standing self) ⌝ }
+    {
+        if self.frames < LAST_FRAME {
+            return false;
+        }
+        TPS_SYMBOLS_PER_FRAME <= self.count
     }
 
     // One symbol of 2,048 cells: its data cells to the lent output, its TPS cells to the journal, and its TPS bit.
@@ -181,48 +182,114 @@ impl Session {
         if journal.len() < JOURNAL_FLOATS {
             return self.refused(ground::OUTPUT_SHORT);
         }
-        let n = self.count;
-        if TPS_SYMBOLS_PER_FRAME <= n {
+        if self.is_full() {
             return self.refused(ground::FULL);
         }
+        let session = self.opened();
+        let n = session.count;
         extract(n, symbol, out);
-        let cells = tps_cells(symbol);
-        put_cells(cells, n, journal);
-        self.take_bit(cells)
+        let cells = halves::tps_cells(symbol);
+        halves::put_cells(cells, session.frames, n, journal);
+        session.take_bit(cells)
     }
 
-    // The latest standing symbol is taken back: the session with the one before it as the latest.
+    // Whether the latest symbol is the first of a later frame, so that taking it back leads to the frame before.
+    fn crosses(self) -> bool
+        ensures { λ r. ⌜ r ≡ crosses (frameOf self) (standing self) ⌝ }
+    {
+        if self.count == 1 {
+            return 1 <= self.frames;
+        }
+        false
+    }
+
+    // The session with n standing in its frame, of one with more.
+    fn back_to(self, n: usize, journal: &[f32]) -> Self
+        requires { ⌜ (n < SYMBOLS) × (journalSize mode2k ≤ length (now journal)) ⌝ }
+        ensures { λ r. ⌜ r ≡ backTo mode2k n self (now (journal .entry)) ⌝ }
+    {
+        let frames = halves::frame_count(self.frames);
+        let held = self.bits;
+        let bits = tps::inner::held_bits(held, n);
+        let from = halves::place_of(frames, 0);
+        let prev = halves::cells_before(n, &journal[from..]);
+        Session {
+            prev,
+            bits,
+            count: n,
+            frames,
+            behind: self.behind,
+        }
+    }
+
+    // The session in the frame before, as a TPS decoder has that.
+    fn frame_before(self, before: TpsDecoder) -> Self
+        requires { ⌜ 1 ≤ self .frames ⌝ }
+        ensures { λ r. ⌜ r ≡ sessionIn (frameOf self - 1) 1 before ⌝ }
+    {
+        let frames = halves::frame_count(self.frames);
+        let prev = before.prev;
+        let bits = before.bits;
+        Session {
+            prev,
+            bits,
+            count: before.count,
+            frames: frames - 1,
+            behind: 1,
+        }
+    }
+
+    // The session with all of the frame before standing, out of the journal.
+    fn back_over(self, journal: &[f32]) -> Self
+        requires { ⌜ (1 ≤ self .frames) × (journalSize mode2k ≤ length (now journal)) ⌝ }
+        ensures { λ r. ⌜ r ≡ backOver mode2k (frameOf self - 1) (now (journal .entry)) ⌝ }
+    {
+        let frames = halves::frame_count(self.frames);
+        let from = halves::place_of(frames - 1, 0);
+        let decoder = halves::replay(&journal[from..]);
+        self.frame_before(decoder)
+    }
+
+    // The refusal of a step back.
+    fn stays(self, number: u8) -> SteppedBack
+        ensures { λ r. ⌜ r ≡ steppedRefused number self ⌝ }
+    {
+        SteppedBack {
+            answer: StepBack::Refused(number),
+            session: self,
+        }
+    }
+
+    // The latest standing symbol is taken back: the session with the one before it as the latest, in the frame before
+    // where it was the first of a later one.
     pub fn step_back(self, journal: &[f32]) -> SteppedBack
         ensures { λ r. ⌜ r ≡ stepBackAnswer mode2k self (now (journal .entry)) ⌝ }
     {
         if journal.len() < JOURNAL_FLOATS {
-            return SteppedBack {
-                answer: StepBack::Refused(ground::OUTPUT_SHORT),
-                session: self,
-            };
+            return self.stays(ground::OUTPUT_SHORT);
         }
         let count = tps::inner::standing_count(self.count);
         if count == 0 {
+            return self.stays(ground::EMPTY);
+        }
+        if self.crosses() {
+            if self.behind != 0 {
+                return self.stays(ground::EMPTY);
+            }
+            let session = self.back_over(journal);
             return SteppedBack {
-                answer: StepBack::Refused(ground::EMPTY),
-                session: self,
+                answer: StepBack::Done,
+                session,
             };
         }
-        let left = count - 1;
-        let held = self.bits;
-        let bits = tps::inner::held_bits(held, left);
-        let prev = cells_before(left, journal);
+        let session = self.back_to(count - 1, journal);
         SteppedBack {
             answer: StepBack::Done,
-            session: Session {
-                prev,
-                bits,
-                count: left,
-            },
+            session,
         }
     }
 
-    // The word of 68 standing symbols.
+    // The word of the current frame's 68 symbols.
     pub fn word(self) -> Unpacked
         ensures { λ r. ⌜ Words self r ⌝ }
     {

@@ -1,26 +1,24 @@
--- `session::cells_before` meets its contract: none stand, or the latest one's place is read. Assumes nothing.
+-- `session::halves::cells_before` meets its contract: none stand, or the latest one's place is read. Assumes nothing.
 use mathlib.Core.Path.{sym, ap, _∙_}
-use Prim.Native.Nat.{ℕ}
 use lib.Ieee.{ofBits}
-use lib.ListN.{drop}
 use Rattle.ground.specs.Cells.{plusZero}
 use Rattle.carriers.specs.Mode.{mode2k}
 use Rattle.tps.specs.Receive.{firstCells}
 use Rattle.session.specs.Journal.{prevIn}
 use Rattle.session.proofs.Places.{part-rest, prev-later}
 use borrow.Author.Needs.{needs}
-use Rattle.session.proofs.cells_before.Statement.{statement}
-use Rattle.session.proofs.cells_before.Tie as tie
+use Rattle.session.proofs.halves.cells_before.Statement.{statement}
+use Rattle.session.proofs.halves.cells_before.Tie as tie
 
 returns : tie.Need-returns
 unfolding prevIn ofBits plusZero
 returns c = rw (c .if1 .taken)
 
-sub-place-of : tie.Need-sub-place-of
-sub-place-of c = search needs
+sub-from : tie.Need-sub-from
+sub-from c = search needs
 
-place-of-requires : tie.Need-place-of-requires
-place-of-requires c κs = search needs
+mul-from : tie.Need-mul-from
+mul-from c = search needs
 
 mul-first-cells : tie.Need-mul-first-cells
 mul-first-cells c = search needs
@@ -39,18 +37,16 @@ first-cells-requires c κs = search needs
 
 returns-2 : tie.Need-returns-2
 returns-2 c =
-    let a = c .before .before .before .before .before .args in
-    c .first-cells .ensures
-    ∙ ap (firstCells (mode2k .tpsCount)) (part-rest (a .journal .now) _ ∙ ap (λ (k : ℕ). drop k (a .journal .now)) (c .before .before .place-of .ensures))
-    ∙ sym (prev-later mode2k (a .n) (a .journal .now) (c .before .before .before .if1 .left))
+    let a = c .before .before .before .before .args in
+    c .first-cells .ensures ∙ ap (firstCells (mode2k .tpsCount)) (part-rest (a .frame .now) _) ∙ sym (prev-later mode2k (a .n) (a .frame .now) (c .before .before .if1 .left))
 
 pub cells-before-spec : {M : Type 1} → statement M
 cells-before-spec =
     tie.close
     (tie.spec
     returns
-    sub-place-of
-    place-of-requires
+    sub-from
+    mul-from
     mul-first-cells
     sub-first-cells
     part-first-cells-start
