@@ -1,14 +1,15 @@
--- A rising list that is made of three lists, as a test in one walk along the four: it has their members, and the three rise as it does. Assumes nothing.
+-- A rising list that is made of three lists, as a test in one walk along the four: it has their members, the three rise as it does, and the walk that
+-- leaves the first out leaves the others' members. Assumes nothing.
 use mathlib.Core.Path.{_≡_, refl, sym, ap, ap₂, _∙_}
-use mathlib.Core.Bool.{Bool, true, false, _&&_, _||_, cond}
+use mathlib.Core.Bool.{Bool, true, false, not, _&&_, _||_, cond}
 use mathlib.Core.List.{List, [], _∷_}
 use Prim.Native.Nat.{ℕ, zero, suc, _≤_}
 use native.Mathlib.Omega.{arith}
 use lib.Dec.{eqb, ltb, leb}
 use borrow.Author.Tests.{eqb-true, leb-true}
-use Rattle.carriers.specs.Carriers.{among}
-use Rattle.carriers.specs.Reserved.{Rises, heads, past}
-use Rattle.carriers.proofs.Rising.{rises-weaken}
+use Rattle.carriers.specs.Carriers.{among, keep}
+use Rattle.carriers.specs.Reserved.{Rises, heads, past, without}
+use Rattle.carriers.proofs.Rising.{rises-weaken, below-none}
 
 -- l rises, from a on and below b
 unfoldable pub rises : ℕ → ℕ → List ℕ → Bool
@@ -123,3 +124,41 @@ made-rise (r ∷ l) x y z a b e h =
     let f = both (heads x r || (heads y r || heads z r)) (made l (past x (heads x r)) (past y (heads y r)) (past z (heads z r))) e in
     let i = made-rise l (past x (heads x r)) (past y (heads y r)) (past z (heads z r)) (suc r) b (f .1) (h .1) in
     (past-rises x a r b (h .0) (i .0), past-rises y a r b (h .0) (i .1))
+
+-- ---- without the first of the three
+
+pub without-rises : (l x : List ℕ) (a b : ℕ) → Rises a b l → Rises a b (without l x)
+unfolding without
+without-rises [] x a b h = h
+without-rises (r ∷ l) x a b h = by (heads x r) (without l (past x (heads x r))) (without-rises l (past x (heads x r)) (suc r) b (h .1))
+  where
+    by : (t : Bool) (w : List ℕ) → Rises (suc r) b w → Rises a b (keep (not t) r w)
+    by true w g = let i : a ≤ r = h .0 in rises-weaken w a (suc r) b (omega arith) g
+    by false w g = (h .0, g)
+
+keep-has : (c r : ℕ) (w : List ℕ) (t : Bool) → among c (keep t r w) ≡ t && eqb c r || among c w
+unfolding among
+keep-has c r w true = refl
+keep-has c r w false = refl
+
+-- one carrier: it is the next one (e) and TPS (t), or one of those that follow (u), and of the TPS carriers that follow (v)
+left-over : (e t u v : Bool) → (e ≡ true → (u ≡ false) × (v ≡ false)) → not t && e || u && not v ≡ (e || u) && not (e && t || v)
+left-over false true u v h = refl
+left-over false false u v h = refl
+left-over true true false false h = refl
+left-over true false false false h = refl
+left-over true t true v h = never (sym (h refl .0))
+left-over true t false true h = never (sym (h refl .1))
+
+pub without-members : (l x y z : List ℕ) (a b c : ℕ) → made l x y z ≡ true → Rises a b l → among c (without l x) ≡ among c l && not (among c x)
+unfolding made among without
+without-members [] x y z a b c e h = refl
+without-members (r ∷ l) x y z a b c e h =
+    let x′ = past x (heads x r) in
+    let f = both (heads x r || (heads y r || heads z r)) (made l x′ (past y (heads y r)) (past z (heads z r))) e in
+    let i = made-rise l x′ (past y (heads y r)) (past z (heads z r)) (suc r) b (f .1) (h .1) in
+    keep-has c r (without l x′) (not (heads x r))
+    ∙ ap (λ (p : Bool). not (heads x r) && eqb c r || p) (without-members l x′ (past y (heads y r)) (past z (heads z r)) (suc r) b c (f .1) (h .1))
+    ∙ left-over (eqb c r) (heads x r) (among c l) (among c x′)
+    (λ q. let s : c ≡ r = eqb-true c r q in (below-none l (suc r) b c (h .1) (omega arith), below-none x′ (suc r) b c (i .0) (omega arith)))
+    ∙ ap (λ (p : Bool). (eqb c r || among c l) && not p) (sym (past-among x r c))

@@ -36,7 +36,7 @@ rises-apart (r ∷ l) a b (suc j) (suc k) h jk l< = rises-apart l (suc r) b j k 
 -- ---- one step of the walk
 
 -- what is left of the list after a was looked at rises from the next on
-step-rises : (l : List ℕ) (a b : ℕ) → a < b → Rises a b l → Rises (suc a) b (past l (heads l a))
+pub step-rises : (l : List ℕ) (a b : ℕ) → a < b → Rises a b l → Rises (suc a) b (past l (heads l a))
 step-rises [] a b l< h = l<
 step-rises (r ∷ l) a b l< h = by (eqb a r) refl
   where
@@ -44,7 +44,8 @@ step-rises (r ∷ l) a b l< h = by (eqb a r) refl
     by true e = rw (eqb-true a r e) (h .1)
     by false e = (lt-of-le-ne (h .0) (eqb-false a r e), h .1)
 
-below-none : (l : List ℕ) (a b c : ℕ) → Rises a b l → c < a → among c l ≡ false
+-- what is less than the first is no member
+pub below-none : (l : List ℕ) (a b c : ℕ) → Rises a b l → c < a → among c l ≡ false
 unfolding among
 below-none [] a b c h l< = refl
 below-none (r ∷ l) a b c h l< =
@@ -52,7 +53,7 @@ below-none (r ∷ l) a b c h l< =
     ap (λ (t : Bool). t || among c l) (ne-eqb c r (λ e. omega arith)) ∙ below-none l (suc r) b c (h .1) (omega arith)
 
 -- the first number is a member just where it is the next one
-head-among : (l : List ℕ) (a b : ℕ) → Rises a b l → among a l ≡ heads l a
+pub head-among : (l : List ℕ) (a b : ℕ) → Rises a b l → among a l ≡ heads l a
 unfolding among
 head-among [] a b h = refl
 head-among (r ∷ l) a b h = let g : a ≤ r = h .0 in or-false (eqb a r) (among a l) (below-none l (suc r) b a (h .1) (omega arith))
@@ -82,7 +83,8 @@ walk-is-chosen t (suc n) a b l e h s =
     (walk-is-chosen t n (suc a) b (past l (heads l a)) (omega arith) (step-rises l a b (omega arith) h)
     (λ c g k. s c (omega arith) k ∙ ap not (sym (step-among l a c g))))
 
-whole : (l : List ℕ) (a : ℕ) → keep (heads l a) a (past l (heads l a)) ≡ l
+-- a list is its first member, where that is a, and what is left
+pub whole : (l : List ℕ) (a : ℕ) → keep (heads l a) a (past l (heads l a)) ≡ l
 whole [] a = refl
 whole (r ∷ l) a = by (eqb a r) refl
   where
@@ -90,7 +92,8 @@ whole (r ∷ l) a = by (eqb a r) refl
     by true e = ap (λ (x : ℕ). x ∷ l) (eqb-true a r e)
     by false e = refl
 
-empty : (l : List ℕ) (a b : ℕ) → a + 0 ≡ b → Rises a b l → l ≡ []
+-- nothing rises from a on and below a
+pub empty : (l : List ℕ) (a b : ℕ) → a + 0 ≡ b → Rises a b l → l ≡ []
 empty [] a b e h = refl
 empty (r ∷ l) a b e h = absurd (omega (arith, h .0, rises-room l (suc r) b (h .1)))
 
