@@ -43,7 +43,7 @@ join (suc n) r x y z =
 
 -- ---- the tests hold
 
-never : {P : Type 0} → _≡_ {A = Bool} false true → P
+pub never : {P : Type 0} → _≡_ {A = Bool} false true → P
 never e = absurd (let z : _≡_ {A = ℕ} 0 1 = cc in omega arith)
 
 both : (x y : Bool) → x && y ≡ true → (x ≡ true) × (y ≡ true)
@@ -136,7 +136,7 @@ without-rises (r ∷ l) x a b h = by (heads x r) (without l (past x (heads x r))
     by true w g = let i : a ≤ r = h .0 in rises-weaken w a (suc r) b (omega arith) g
     by false w g = (h .0, g)
 
-keep-has : (c r : ℕ) (w : List ℕ) (t : Bool) → among c (keep t r w) ≡ t && eqb c r || among c w
+pub keep-has : (c r : ℕ) (w : List ℕ) (t : Bool) → among c (keep t r w) ≡ t && eqb c r || among c w
 unfolding among
 keep-has c r w true = refl
 keep-has c r w false = refl
