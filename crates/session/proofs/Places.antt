@@ -10,9 +10,9 @@ use lib.ListN.{length, take, drop, length-drop, drop-of-length-le}
 use lib.Seq.{take-all, drop-drop}
 use borrow.Rule.Slice.PartMut.{midOf, putMid}
 use Rattle.ground.specs.Answer.{written}
-use Rattle.carriers.specs.Mode.{Mode, mode2k}
+use Rattle.carriers.specs.Mode.{Mode}
 use Rattle.carriers.specs.Carriers.{tpsBins}
-use Rattle.carriers.proofs.Facts.{Facts, facts2k}
+use Rattle.carriers.proofs.Facts.{Facts}
 use Rattle.carriers.proofs.Bins.{tps-bins-many}
 use Rattle.grid.specs.Symbol.{Bins, cellsAt}
 use Rattle.grid.proofs.Lent.{tps-bins-in, lent-bins}
@@ -22,8 +22,8 @@ use Rattle.session.proofs.Cells.{tps-length}
 
 -- ---- the TPS cells of a symbol
 
-pub tps-lent : (bins : List ℕ) → bins ≡ tpsBins mode2k → Bins mode2k bins × (length bins ≡ mode2k .tpsCount)
-tps-lent bins e = lent-bins bins (tpsBins mode2k) (mode2k .tpsCount) e (tps-bins-in mode2k facts2k) (tps-bins-many mode2k facts2k)
+pub tps-lent : {m : Mode} (f : Facts m) (bins : List ℕ) → bins ≡ tpsBins m → Bins m bins × (length bins ≡ m .tpsCount)
+tps-lent {m} f bins e = lent-bins m bins (tpsBins m) (m .tpsCount) e (tps-bins-in m f) (tps-bins-many m f)
 
 pub tps-gathered : {m : Mode} (f : Facts m) (symbol o : List Float) (bins : List ℕ) {out : List Float} → bins ≡ tpsBins m → length o ≡ place m
     → out ≡ written (cellsAt symbol bins) o → out ≡ tpsCells m symbol
