@@ -43,8 +43,8 @@ enum {
     SALT_OUTPUT_SHORT = 3, /* a lent output or journal is shorter than needed */
     SALT_NO_WORD = 4,      /* no codeword lies within distance two */
     SALT_RESERVED = 5,     /* constellation 3 or rate 5, 6 or 7 received, or a code handed in above those that exist */
-    SALT_FULL = 6,         /* a symbol is fed when 68 stand */
-    SALT_EMPTY = 7,        /* a step back when none stands */
+    SALT_FULL = 6,         /* a symbol is fed to a receiver when 68 stand, or to a session when 68 stand in its last frame */
+    SALT_EMPTY = 7,        /* a step back when none stands, or into a frame that is no longer kept */
     SALT_INCOMPLETE = 8,   /* a word is asked for with fewer than 68 */
     SALT_BAD_LINE = 9,     /* the report's input line isn't 17 digits from 0-9 and a-f */
     SALT_OUT_OF_STEP = 10, /* a word that the desk takes hasn't the number that is wanted */
@@ -567,10 +567,10 @@ SaltUnpacked salt_tps_decoder_word(SaltTpsDecoder decoder);
 
 /*
  * The extractor and the TPS decoder joined, with a journal of two frames that steps back. With n symbols standing in
- * frame c, the frames since the reset being counted from 0, the phase is n mod 4, and the 34 floats of the journal from
- * 2,312 (c mod 2) + 34 n on are the next symbol's. A feed with 68 standing begins the next frame, and the frame before
- * the previous one can't be gone back to any more. The caller lends one journal for each session, always the same, and
- * writes nothing to it in between.
+ * frame c, the frames since the reset being counted from 0, the phase is n mod 4, and where n is below 68 the 34
+ * floats of the journal from 2,312 (c mod 2) + 34 n on are the next symbol's. A feed with 68 standing begins the
+ * next frame, and the frame before the previous one can't be gone back to any more. The caller lends one journal for
+ * each session, always the same, and writes nothing to it in between.
  */
 
 /*
@@ -617,8 +617,8 @@ SaltSessionFed salt_session_feed(SaltSession session, const float *symbol, size_
 /*
  * Takes the latest standing symbol back; the first of a later frame leaves the 68 of the frame before standing. The
  * journal is only read.
- * Refusals: 3 OUTPUT SHORT (a journal under 4,624), 7 EMPTY (none stands; or a third frame was begun, the current one is
- * the one before the furthest begun, and one symbol stands in it).
+ * Refusals: 3 OUTPUT SHORT (a journal under 4,624), 7 EMPTY (none stands; or a third frame was begun, the current one
+ * is the one before the furthest begun, and one symbol stands in it).
  */
 SaltSessionStepped salt_session_step_back(SaltSession session, const float *journal, size_t journal_length);
 

@@ -12,9 +12,8 @@ QUIET = re.compile(r"//.*|\"[^\"\n]*\"|'.'")
 
 @dataclasses.dataclass
 class Function:
-    """A function: its path behind the crate's name, its file, whether it is public (none of a module `inner` is, nor one
-    of a module that the crate keeps to itself, but for those exported to C), where it begins and ends there, what it
-    takes and answers, and its contract."""
+    """A function: its path behind the crate's name, its file, whether it is public (no function of a module `inner`
+    is), where it begins and ends there, what it takes and answers, and its contract."""
 
     path: str
     file: str
@@ -47,8 +46,8 @@ def closed(text, at):
     raise ValueError(f"nothing closes: {text[at : at + 60]}")
 
 
-def read(text, file="", module="", kept=False):
-    """The functions of a text, whose module the crate may keep to itself."""
+def read(text, file="", module=""):
+    """The functions of a text."""
     owner, code = "", QUIET.sub(lambda found: " " * len(found[0]), text)
     for mark in MARK.finditer(text):
         if not mark["name"]:
@@ -58,7 +57,7 @@ def read(text, file="", module="", kept=False):
         promised = at = min(found.start() for found in (CLAUSE.search(code, taken), BODY.search(code, taken)) if found)
         while clause := CLAUSE.match(code, at):
             at = closed(code, clause.end())
-        public = bool(mark[2]) and not mark[3] and not module.startswith("inner::") and not (kept and 'extern "C"' not in mark[0])
+        public = bool(mark[2]) and not mark[3] and not module.startswith("inner::")
         end = closed(code, code.index("{", at))
         yield Function(module + owner + mark["name"], file, public, mark.start(), end, text[mark.start() : promised], text[promised:at])
 
@@ -66,11 +65,10 @@ def read(text, file="", module="", kept=False):
 def functions(crate):
     """The functions of a crate."""
     found, source = [], root / "crates" / crate / "src"
-    kept = re.findall(r"^mod (\w+);", (source / "lib.rt").read_text(), flags=re.M) if not is_program(crate) else []
     for file in sorted(source.rglob("*.rt")):
         name = file.relative_to(source)
         module = "".join(f"{part}::" for part in name.with_suffix("").parts if part not in ("lib", "main"))
-        found += read(file.read_text(), f"src/{name}", module, module.partition("::")[0] in kept)
+        found += read(file.read_text(), f"src/{name}", module)
     return found
 
 

@@ -35,7 +35,7 @@
 //! | [`ConstellationOrder`] has three cases | and BPSK and 256-QAM |
 //! | [`GridExtract`] is that of the 2K plan with continual pilots alone; `process` is its own | any `CarrierGrid`; `process` is a trait's |
 //! | [`GridMap`] is retired, and refuses every call | maps |
-//! | a 69th symbol is refused | collected |
+//! | [`feed_symbol`] refuses a 69th symbol | collected |
 //! | `TpsWord::pack` writes 000 in s33 to s35, as the standard has it without hierarchy | the rate again |
 //! | [`tps_bch_decode_mended`], [`unpack_mended`] and [`word_mended`] tell which bits were mended, too | not told |
 //! | [`tps_bch_decode_slow`] and [`Reader::by`] read by trying each change, with the same answers | one decoder |

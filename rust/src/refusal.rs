@@ -31,9 +31,9 @@ pub enum Refusal {
     NoWord = SALT_NO_WORD,
     /// Constellation code 3, or rate code 5, 6 or 7.
     Reserved = SALT_RESERVED,
-    /// A symbol is fed when 68 stand.
+    /// A symbol is fed to a receiver when 68 stand, or to a session when 68 stand in its last frame.
     Full = SALT_FULL,
-    /// A step back when none stands.
+    /// A step back when none stands, or into a frame that is no longer kept.
     Empty = SALT_EMPTY,
     /// A word is asked for with fewer than 68.
     Incomplete = SALT_INCOMPLETE,

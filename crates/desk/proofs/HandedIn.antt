@@ -2,7 +2,7 @@
 -- what is gathered behind it. Assumes nothing.
 use mathlib.Core.Path.{_≡_, refl, sym, ap, _∙_, subst}
 use mathlib.Core.Logic.{_↔_, _⊎_, inl, inr, ⊎-elim}
-use mathlib.Core.Bool.{Bool, true, false, _&&_, cond, true≢false, false≢true}
+use mathlib.Core.Bool.{Bool, true, false, cond, false≢true, and-eq-true-iff}
 use mathlib.Core.List.{List, [], _∷_}
 use Prim.Native.Nat.{ℕ, zero, suc, _+_, _*_, _≤_, _<_}
 use native.Mathlib.Omega.{arith}
@@ -19,7 +19,7 @@ use Rattle.desk.specs.Desk.{parametersOf, areSame, fresh, started, afres
 use Rattle.desk.specs.SuperFrame.{Same, First, Second, Third, Whole, superFrameOf, LastOne, LastTwo, LastThree, LastFour, Completes, Last, Gathers}
 use Rattle.desk.specs.SuperFrame.{deskAfter, answerAt, Holds, nothing, one, two, three}
 use Rattle.desk.proofs.Taking.{out-of-step, mismatch, goes-on, accepted-fewer}
-use Rattle.desk.proofs.SameParameters.{same-parameters, both-hold, same-holds}
+use Rattle.desk.proofs.SameParameters.{same-parameters, same-holds}
 
 -- ---- the last words of a list
 
@@ -117,7 +117,7 @@ went (one {ws = ws} {a = a} f) w =
       λ l. same-holds (parametersOf a) (parametersOf w) .1 (l .same),
     ))
 went (two {ws = ws} {a = a} {b = b} s) w =
-    let cell = both-hold (areSame (parametersOf a) (parametersOf w)) (eqb (a .«cell_id») (w .«cell_id»)) in
+    let cell = and-eq-true-iff (areSame (parametersOf a) (parametersOf w)) (eqb (a .«cell_id») (w .«cell_id»)) in
     outcome (b ∷ a ∷ ws) (goneOn 1 (started a) b) w 2 refl s (λ e. (
       λ h.
           record {
@@ -129,7 +129,7 @@ went (two {ws = ws} {a = a} {b = b} s) w =
       λ l. cell .1 (same-holds (parametersOf a) (parametersOf w) .1 (l .same), eq-eqb (a .«cell_id») (w .«cell_id») (l .high)),
     ))
 went (three {ws = ws} {a = a} {b = b} {c = c} t) w =
-    let cell = both-hold (areSame (parametersOf a) (parametersOf w)) (eqb (b .«cell_id») (w .«cell_id»)) in
+    let cell = and-eq-true-iff (areSame (parametersOf a) (parametersOf w)) (eqb (b .«cell_id») (w .«cell_id»)) in
     outcome (c ∷ b ∷ a ∷ ws) (goneOn 2 (goneOn 1 (started a) b) c) w 3 refl t (λ e. (
       λ h.
           record {

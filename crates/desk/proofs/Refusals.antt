@@ -13,6 +13,7 @@ use Rattle.ground.specs.Refusal.{ACCEPTED, OUT-OF-STEP, MISMATCH, _gives_, firs
 use Rattle.ground.specs.Answer.{kept}
 use Rattle.ground.proofs.Exactly.{Decides, by-test, not-decides, equal-decides, given-here, given-behind, said-exactly}
 use Rattle.tps.specs.declared.word.TpsWord.{TpsWord}
+use Rattle.tps.proofs.Faithful.{some-none}
 use Rattle.desk.specs.declared.Parameters.{Parameters}
 use Rattle.desk.specs.declared.Desk.{Desk}
 use Rattle.desk.specs.declared.SuperFrame.{SuperFrame}
@@ -143,9 +144,6 @@ module _ (d : Desk) (w : TpsWord) where
       by-strange false f = f
 
 -- ---- no two cases of an answer say the same
-
-some-none : {A : Type 0} {v : A} {l : List A} → v ∷ [] ≡ l → length l ≡ 0 → ⊥
-some-none e z = omega (arith, ap length e, z)
 
 abbrev Says : Type 0
 Says = ℕ × List (List SuperFrame)

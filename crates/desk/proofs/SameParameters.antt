@@ -2,7 +2,7 @@
 -- nothing.
 use mathlib.Core.Path.{_≡_, refl, sym, ap, ap₂, subst}
 use mathlib.Core.Logic.{_↔_}
-use mathlib.Core.Bool.{Bool, true, false, _&&_, false≢true}
+use mathlib.Core.Bool.{Bool, true, _&&_, and-eq-true-iff}
 use Prim.Native.Nat.{ℕ}
 use lib.Dec.{eqb}
 use borrow.Author.Tests.{eq-eqb, eqb-true}
@@ -33,10 +33,6 @@ same-parameters v w = (
 
 -- ---- the test
 
-pub both-hold : (s t : Bool) → ((s && t) ≡ true) ↔ ((s ≡ true) × (t ≡ true))
-both-hold true t = (λ e. (refl, e), λ e. e .1)
-both-hold false t = (λ e. absurd (false≢true e), λ e. absurd (false≢true (e .0)))
-
 all-same : (p : Parameters) → areSame p p ≡ true
 all-same p =
     rw (eq-eqb (p .constellation) (p .constellation) refl, eq-eqb (p .«code_rate_hp») (p .«code_rate_hp») refl, eq-eqb (p .guard) (p .guard) refl) refl
@@ -44,8 +40,8 @@ all-same p =
 pub same-holds : (p q : Parameters) → (areSame p q ≡ true) ↔ (p ≡ q)
 same-holds p q = (
   λ e.
-      let x = both-hold (eqb (p .constellation) (q .constellation) && eqb (p .«code_rate_hp») (q .«code_rate_hp»)) (eqb (p .guard) (q .guard)) .0 e in
-      let y = both-hold (eqb (p .constellation) (q .constellation)) (eqb (p .«code_rate_hp») (q .«code_rate_hp»)) .0 (x .0) in
+      let x = and-eq-true-iff (eqb (p .constellation) (q .constellation) && eqb (p .«code_rate_hp») (q .«code_rate_hp»)) (eqb (p .guard) (q .guard)) .0 e in
+      let y = and-eq-true-iff (eqb (p .constellation) (q .constellation)) (eqb (p .«code_rate_hp») (q .«code_rate_hp»)) .0 (x .0) in
       three-equal
       (eqb-true (p .constellation) (q .constellation) (y .0))
       (eqb-true (p .«code_rate_hp») (q .«code_rate_hp») (y .1))

@@ -5,7 +5,7 @@ use Rattle.tps.specs.declared.word.Unpacked.the-variants as unpacked
 use Rattle.desk.specs.declared.SuperFrame.{SuperFrame}
 use Rattle.desk.specs.declared.Answer.{Answer}
 use Rattle.desk.specs.declared.Answer.the-variants.{Gathered, Complete, Refused}
-use Rattle.report.specs.Characters.{characters, newline, space}
+use Rattle.report.specs.Characters.{characters}
 use Rattle.report.specs.Text.{decimal, cellText, pointsText, rateText, guardText, row, lineText}
 use Rattle.deskreport.specs.declared.inner.Tally.{Tally}
 
@@ -15,9 +15,6 @@ heading = characters "line id points rate guard\n"
 -- a cell id in four digits, the high byte's first
 abbrev pub idText : ℕ → List ℕ
 idText id = cellText (id / 256) ++ cellText (id % 256)
-
-abbrev pub idColumn : ℕ → List ℕ
-idColumn id = space ∷ idText id
 
 -- the line of a complete super-frame, by the number of the line that completes it
 unfoldable pub frameText : ℕ → SuperFrame → List ℕ
@@ -37,9 +34,6 @@ answerText n (Complete s) = frameText n s
 answerText n (Refused k) = lineText n (unpacked.Refused k)
 
 -- the closing line: all lines, the complete super-frames, and the refusals
-abbrev pub refusedText : ℕ → List ℕ
-refusedText m = space ∷ (characters "refused" ++ (space ∷ (decimal m ++ (newline ∷ []))))
-
 unfoldable pub closing : Tally → List ℕ
 closing k =
     row

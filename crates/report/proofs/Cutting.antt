@@ -1,6 +1,7 @@
--- For any way of cutting an input into parts, whichever feeds are refused among them, and by whichever decoder each
--- is read, the calls print the report of the whole input; so the fast decoder's text is the slow one's. There is a run
--- for any calls, and calls for any cutting. Assumes nothing.
+-- For any way of cutting an input into parts, and whichever feeds are refused among them, the calls print the report of
+-- the whole input. The promises of feeding and of ending don't speak of the decoder that a call is given, so runs by
+-- the fast decoder, by the slow one or by both in turn print the same. There is a run for any calls, and calls for any
+-- cutting. Assumes nothing.
 use mathlib.Core.Path.{_≡_, refl, sym, ap, ap₂, _∙_, subst}
 use mathlib.Core.List.{List, [], _∷_, _++_, append-assoc}
 use Prim.Native.Nat.{ℕ, zero, suc, _^_, _<_}
@@ -9,7 +10,6 @@ use lib.ListN.{length, replicate, length-replicate}
 use lib.Seq.{take-at}
 use Rattle.ground.specs.Answer.{numberOf, counted, kept, written, fillNo, fillLeaves}
 use Rattle.ground.proofs.Answers.{counted-says-number}
-use Rattle.bch.specs.declared.Decoder.{Decoder}
 use Rattle.report.specs.declared.Reader.{Reader}
 use Rattle.report.specs.declared.Fed.{Fed}
 use Rattle.report.specs.Text.{heading}
@@ -74,7 +74,7 @@ any-cutting {calls} w p =
     ∙ ap (λ (x : List ℕ). heading ++ x) (run-text (p .runs) ∙ ap (restText teller (countsOf fresh)) (parts-answers (taken calls)))
     ∙ rest-is-report (joined (taken calls)) w
 
--- by whichever decoders two runs take the same parts, they print the same
+-- two runs that take the same parts print the same, whichever decoders their calls are given
 pub same-text : {calls others : List Call} {printed other : List ℕ} → taken calls ≡ taken others → length (joined (taken calls)) < 2 ^ 64
     → Prints calls printed → Prints others other → printed ≡ other
 same-text e w p q =
@@ -121,10 +121,10 @@ cutting-exists calls =
       record { first = h .0; middle = r .0; last = u .0; reader = r .1; begins = h .1; runs = r .2; ends = u .1; all = refl },
     )
 
-pub any-parts-taken : (d : Decoder) (parts : List (List ℕ)) → (calls : List Call) × (taken calls ≡ parts)
-any-parts-taken d [] = ([], refl)
-any-parts-taken d (part ∷ parts) =
-    let r = any-parts-taken d parts in (
-      record { part = part; out = replicate (partRoom part) 0; decoder = d } ∷ r .0,
+pub any-parts-taken : (parts : List (List ℕ)) → (calls : List Call) × (taken calls ≡ parts)
+any-parts-taken [] = ([], refl)
+any-parts-taken (part ∷ parts) =
+    let r = any-parts-taken parts in (
+      record { part = part; out = replicate (partRoom part) 0 } ∷ r .0,
       ap (λ (k : ℕ). kept k (part ∷ taken (r .0)) (taken (r .0))) (has-room (partRoom part)) ∙ ap (λ (l : List (List ℕ)). part ∷ l) (r .1),
     )

@@ -7,7 +7,6 @@ use lib.ListN.{take}
 use Rattle.ground.specs.Refusal.{ACCEPTED}
 use Rattle.ground.specs.Answer.{numberOf, countOf, kept}
 use Rattle.ground.specs.declared.Counted.{Counted}
-use Rattle.bch.specs.declared.Decoder.{Decoder}
 use Rattle.report.specs.declared.Reader.{Reader}
 use Rattle.report.specs.declared.Fed.{Fed}
 use Rattle.report.specs.Stream.{fresh}
@@ -31,11 +30,11 @@ pub record Writes (answerFor : List ℕ → Counted) (leavesFor : List ℕ → L
 
 -- ---- the feeds
 
--- the part that a call is given, what stands in its output, and the decoder by which its lines are read
+-- the part that a call is given, and what stands in its output; the decoder by which its lines are read plays no part
+-- in what it promises
 pub record Call : Type 0 where
   pub part : List ℕ
   pub out : List ℕ
-  pub decoder : Decoder
 
 -- the parts that are taken: those of the calls that aren't refused
 abbrev pub taken : List Call → List (List ℕ)

@@ -66,7 +66,7 @@ pub fn put_heading(out: &mut [u8]) -> Counted
     if out.len() < HEADING_LEN {
         return Counted::Refused(ground::OUTPUT_SHORT);
     }
-    Counted::Count(text::put(out, 0, b"line frame points rate guard cell mended\n"))
+    Counted::Count(inner::put(out, 0, b"line frame points rate guard cell mended\n"))
 }
 
 // Writes the line of the report for a line's number and its answer; a count of changed bits above 2 is written as 2.

@@ -1,9 +1,9 @@
 // The receive session.
 // The extractor and the TPS decoder joined, with a journal of two frames that steps back. With n symbols standing in
-// frame c, the frames since the reset being counted from 0, the phase is n mod 4, and the 34 floats of the journal from
-// 2,312 (c mod 2) + 34 n on are the next symbol's. A feed with 68 standing begins the next frame, and the frame before
-// the previous one can't be gone back to any more. The caller lends one journal for each session, always the same, and
-// writes nothing to it in between.
+// frame c, the frames since the reset being counted from 0, the phase is n mod 4, and where n is below 68 the 34
+// floats of the journal from 2,312 (c mod 2) + 34 n on are the next symbol's. A feed with 68 standing begins the
+// next frame, and the frame before the previous one can't be gone back to any more. The caller lends one journal for
+// each session, always the same, and writes nothing to it in between.
 ghost use mathlib.Core.Path.{_≡_};
 ghost use Rattle.carriers.specs.Mode.{mode2k};
 ghost use Rattle.session.specs.Session.{fresh, nextPhase, feedAnswer, feedDataLeaves, feedJournalLeaves};
@@ -84,8 +84,8 @@ pub extern "C" fn salt_session_feed(
 
 // Takes the latest standing symbol back; the first of a later frame leaves the 68 of the frame before standing. The
 // journal is only read.
-// Refusals: 3 OUTPUT SHORT (a journal under 4,624), 7 EMPTY (none stands; or a third frame was begun, the current one is
-// the one before the furthest begun, and one symbol stands in it).
+// Refusals: 3 OUTPUT SHORT (a journal under 4,624), 7 EMPTY (none stands; or a third frame was begun, the current one
+// is the one before the furthest begun, and one symbol stands in it).
 #[no_mangle]
 pub extern "C" fn salt_session_step_back(session: Session, journal: &[f32]) -> SaltSessionStepped
     ensures { λ r. ⌜ SaysStepped r (stepBackAnswer mode2k session (now (journal .entry))) ⌝ }

@@ -36,7 +36,7 @@ use Rattle.tps.proofs.Codes.{constellation-known, rate-known, guard-kno
 -- ---- answers
 
 -- one value and none are told apart
-some-none : {A : Type 0} {v : A} {l : List A} → v ∷ [] ≡ l → length l ≡ 0 → ⊥
+pub some-none : {A : Type 0} {v : A} {l : List A} → v ∷ [] ≡ l → length l ≡ 0 → ⊥
 some-none e z = omega (arith, ap length e, z)
 
 pub bit-faithful : (a c : TpsBit) → bitSays a ≡ bitSays c → a ≡ c

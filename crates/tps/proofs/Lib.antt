@@ -4,6 +4,7 @@ pub mod Fields
 pub mod Packing
 pub mod Unpacking
 pub mod Determined
+pub mod SentRead
 pub mod RoundTrip
 pub mod SecondRate
 pub mod MendedBits

@@ -1,19 +1,14 @@
 -- A packed word with at most two of s1..s67 wrong, and s0 either, is unpacked to itself, its frame number modulo 4, and
 -- the wrong bits are told. Assumes nothing.
 use mathlib.Core.Path.{_≡_, sym, ap, _∙_, subst}
-use mathlib.Core.Logic.{inl}
 use mathlib.Core.List.{List}
 use Prim.Native.Nat.{ℕ, _%_, _<_, _≤_}
 use native.Mathlib.Omega.{arith}
 use lib.ListN.{length, take, drop}
-use lib.Seq.{take-at}
 use Rattle.ground.specs.Bits.{Bits}
-use Rattle.ground.specs.Digits.{digitsOf}
-use Rattle.ground.proofs.Bits.{are-bits}
 use Rattle.ground.proofs.Digits.{small-digits}
-use Rattle.bch.specs.Code.{places, distance, parity, encode}
+use Rattle.bch.specs.Code.{places, distance, encode}
 use Rattle.bch.specs.Promise.{mendedAt}
-use Rattle.bch.proofs.Codeword.{encode-codeword}
 use Rattle.tps.specs.declared.inner.WordRead.{WordRead}
 use Rattle.tps.specs.declared.inner.WordRead.the-variants.{Known}
 use Rattle.tps.specs.declared.word.TpsWord.{TpsWord}
@@ -21,12 +16,11 @@ use Rattle.tps.specs.declared.word.Unpacked.{Unpacked}
 use Rattle.tps.specs.declared.word.Unpacked.the-variants.{Word}
 use Rattle.tps.specs.Codes.{constellationCode, rateCode, guardCode, codesOf, wordOf}
 use Rattle.tps.specs.Word.{fieldsOf, informationOf, wordBits, codesIn, modulo4}
-use Rattle.tps.specs.Packing.{packLeaves, unpackedBy, UnpacksBy, Unpacks}
+use Rattle.tps.specs.Packing.{packLeaves, unpackedBy, Unpacks}
 use Rattle.tps.proofs.Codes.{constellation-small, rate-small, guard-small, word-of-codes}
 use Rattle.tps.proofs.Fields.{fields-bits}
 use Rattle.tps.proofs.Packing.{information-length, pack-writes}
-use Rattle.tps.proofs.Unpacking.{unpack-accepted}
-use Rattle.tps.proofs.Determined.{unpack-determined}
+use Rattle.tps.proofs.SentRead.{sent-read}
 
 module _ (w : TpsWord) (h : w .«cell_id» < 256) where
   -- the information of a word says its codes, the frame number modulo 4
@@ -49,23 +43,13 @@ module _ (w : TpsWord) (h : w .«cell_id» < 256) where
     abbrev mendedFrom : List ℕ → Unpacked
     mendedFrom s = Word (modulo4 w) (mendedAt (places 0 (drop 1 s) (drop 1 b)))
 
-    near-word : distance (encode (informationOf w)) (drop 1 b) ≤ 2 → Unpacks b (mendedFrom (wordBits w))
-    near-word n =
-        subst (λ (k : ℕ). UnpacksBy k b (mendedFrom (wordBits w))) (sym (unpack-accepted b hl (are-bits b hb)))
-        (inl record {
-          word = encode (informationOf w);
-          codeword = encode-codeword (informationOf w) (fields-bits (fieldsOf (codesOf w))) (information-length w);
-          near = n;
-          says =
-              sym (ap (λ (x : WordRead). unpackedBy x (mendedAt (places 0 (encode (informationOf w)) (drop 1 b))))
-              (ap (λ (s : List ℕ). wordOf (codesIn s)) (take-at (informationOf w) (digitsOf 14 (parity (informationOf w))) 53 (information-length w))
-              ∙ information-says));
-        })
-
     -- of a word's bits s0..s67, at most two of s1..s67 wrong and s0 either, unpacking answers the word, its frame
     -- number modulo 4, and the places of the wrong bits
     pub unpack-packed : (r : Unpacked) → distance (drop 1 (wordBits w)) (drop 1 b) ≤ 2 → Unpacks b r → r ≡ mendedFrom (wordBits w)
-    unpack-packed r n k = unpack-determined b r (mendedFrom (wordBits w)) k (near-word n)
+    unpack-packed r n k =
+        sent-read (informationOf w) b r
+        (record { information = (fields-bits (fieldsOf (codesOf w)), information-length w); received = (hb, hl); near = n }) k
+        ∙ ap (λ (x : WordRead). unpackedBy x (mendedAt (places 0 (encode (informationOf w)) (drop 1 b)))) information-says
 
     -- the same of what packing leaves in an output with room for it
     pub unpack-written : (o a : List ℕ) (r : Unpacked) → 68 ≤ length o → a ≡ packLeaves w o → distance (drop 1 (take 68 a)) (drop 1 b) ≤ 2

@@ -1,19 +1,15 @@
--- Document 02, E2: unpacking ignores s33..s35. Codewords whose informations differ there alone, each with at most two of
--- s1..s67 wrong and s0 either, are read as the same word, or are both refused as reserved. Assumes nothing.
-use mathlib.Core.Path.{_≡_, refl, sym, ap, _∙_, subst}
+-- Document 02, E2: unpacking ignores s33..s35. Codewords whose informations differ there alone, each with at most two
+-- of s1..s67 wrong and s0 either, are read as the same word, or are both refused as reserved. Assumes nothing.
+use mathlib.Core.Path.{_≡_, refl, sym, ap, _∙_}
 use mathlib.Core.List.{List, [], _∷_}
-use mathlib.Core.Logic.{inl}
 use Prim.Native.Nat.{ℕ, zero, suc, _+_, _-_, _≤_}
 use native.Mathlib.Omega.{arith}
-use lib.ListN.{length, take, drop}
-use lib.Seq.{take-at, take-take, drop-drop}
-use Rattle.ground.specs.Bits.{Bits}
-use Rattle.ground.specs.Digits.{digitsOf, valueOf}
-use Rattle.ground.proofs.Bits.{are-bits}
-use Rattle.bch.specs.Code.{places, distance, parity, encode}
+use lib.ListN.{take, drop}
+use lib.Seq.{take-take, drop-drop}
+use Rattle.ground.specs.Digits.{valueOf}
+use Rattle.bch.specs.Code.{places, encode}
 use Rattle.bch.specs.Promise.{mendedAt}
 use Rattle.bch.specs.declared.Mended.{Mended}
-use Rattle.bch.proofs.Codeword.{encode-codeword}
 use Rattle.tps.specs.declared.inner.Codes.{Codes}
 use Rattle.tps.specs.declared.inner.WordRead.{WordRead}
 use Rattle.tps.specs.declared.inner.WordRead.the-variants.{Known, Reserved}
@@ -21,10 +17,9 @@ use Rattle.tps.specs.declared.word.TpsWord.{TpsWord}
 use Rattle.tps.specs.declared.word.Unpacked.{Unpacked}
 use Rattle.tps.specs.declared.word.Unpacked.the-variants.{Word, Refused}
 use Rattle.tps.specs.Codes.{wordOf}
-use Rattle.tps.specs.Word.{SYMBOLS, said, codesIn}
-use Rattle.tps.specs.Packing.{unpackedBy, readAs, UnpacksBy, Unpacks}
-use Rattle.tps.proofs.Unpacking.{unpack-accepted}
-use Rattle.tps.proofs.Determined.{unpack-determined}
+use Rattle.tps.specs.Word.{said, codesIn}
+use Rattle.tps.specs.Packing.{unpackedBy, Unpacks}
+use Rattle.tps.proofs.SentRead.{Sent, sent-read}
 
 -- ---- what two informations that differ in s33..s35 alone say
 
@@ -67,27 +62,6 @@ wordSaid (Refused k) = (k, [])
 by-codes : (x : WordRead) (m n : Mended) → wordSaid (unpackedBy x m) ≡ wordSaid (unpackedBy x n)
 by-codes (Known w) m n = refl
 by-codes Reserved m n = refl
-
--- the bits b are those of a codeword with the information s, at most two of s1..s67 wrong and s0 either
-pub record Sent (s b : List ℕ) : Type 0 where
-  pub information : Bits s × (length s ≡ 53)
-  pub received : Bits b × (length b ≡ SYMBOLS)
-  pub near : distance (encode s) (drop 1 b) ≤ 2
-
--- a call answers what the information says
-sent-read : (s b : List ℕ) (r : Unpacked) → Sent s b → Unpacks b r → r ≡ unpackedBy (wordOf (codesIn s)) (mendedAt (places 0 (encode s) (drop 1 b)))
-sent-read s b r h u =
-    unpack-determined b r (readAs (encode s) (drop 1 b)) u
-    (subst (λ (k : ℕ). UnpacksBy k b (readAs (encode s) (drop 1 b)))
-    (sym (unpack-accepted b (h .received .1) (are-bits b (h .received .0))))
-    (inl record {
-      word = encode s;
-      codeword = encode-codeword s (h .information .0) (h .information .1);
-      near = h .near;
-      says = refl;
-    }))
-    ∙ ap (λ (l : List ℕ). unpackedBy (wordOf (codesIn l)) (mendedAt (places 0 (encode s) (drop 1 b))))
-    (take-at s (digitsOf 14 (parity s)) 53 (h .information .1))
 
 pub second-rate-ignored : (s t a b : List ℕ) (r q : Unpacked) → ButSecondRate s t → Sent s a → Sent t b → Unpacks a r → Unpacks b q → wordSaid r ≡ wordSaid q
 second-rate-ignored s t a b r q e hs ht u w =

@@ -9,10 +9,10 @@ use Rattle.ground.specs.Answer.{countOf, kept}
 use Rattle.ground.specs.Refusal.{ACCEPTED}
 use Rattle.ground.proofs.Answers.{answered}
 use Rattle.ground.proofs.Chunks.{chunks-length}
-use Rattle.ts.specs.Packets.{count, packetized, payloads, depacketizeNo, depacketizeAnswer, depacketizeLeaves}
+use Rattle.ts.specs.Packets.{count, packetized, bytesFor, payloads, depacketizeNo, depacketizeAnswer, depacketizeLeaves}
 use Rattle.ts.specs.Stuffing.{null, nulls, stuffNo, stuffAnswer, stuffLeaves}
 use Rattle.ts.specs.Dispersal.{dispersed, disperseNo, disperseLeaves}
-use Rattle.ts.specs.PacketizeDispersed.{bytesFor, packetizeDispersedNo, packetizeDispersedAnswer, packetizeDispersedLeaves}
+use Rattle.ts.specs.PacketizeDispersed.{packetizeDispersedNo, packetizeDispersedAnswer, packetizeDispersedLeaves}
 use Rattle.ts.proofs.Numbers.{depacketize-accepted, disperse-accepted, stuff-taken}
 use Rattle.ts.proofs.Packets.{packetized-length, payloads-each, taken-apart-is-payload}
 use Rattle.ts.proofs.WhitenedPackets.{whitened-length, whitened-again}

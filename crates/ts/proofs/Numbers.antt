@@ -13,7 +13,8 @@ use Rattle.ground.proofs.Exactly.{Decides, less-decides, equal-decides, not-dec
 use Rattle.ts.specs.Packets.{depacketizeNo}
 use Rattle.ts.specs.Stuffing.{stuffNo}
 use Rattle.ts.specs.Dispersal.{disperseNo}
-use Rattle.ts.specs.PacketizeDispersed.{bytesFor, packetizeDispersedNo}
+use Rattle.ts.specs.Packets.{bytesFor}
+use Rattle.ts.specs.PacketizeDispersed.{packetizeDispersedNo}
 
 -- n bytes aren't whole packets
 ragged : (n : ℕ) → Decides (not (eqb (n % 188) 0)) (n % 188 ≡ 0 → ⊥) (n % 188 ≡ 0)

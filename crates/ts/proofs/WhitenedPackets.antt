@@ -13,9 +13,9 @@ use Rattle.ground.specs.Chunks.{chunks}
 use Rattle.ground.specs.Refusal.{ACCEPTED}
 use Rattle.ground.proofs.Chunks.{Each, chunks-length, chunks-next, chunks-chunks}
 use Rattle.ground.proofs.Front.{front, front-full}
-use Rattle.ts.specs.Packets.{count, packet, packetized, packetizeNo, packetizeAnswer, packetizeLeaves}
+use Rattle.ts.specs.Packets.{count, packet, packetized, bytesFor, packetizeNo, packetizeAnswer, packetizeLeaves}
 use Rattle.ts.specs.Dispersal.{sync, dispersedPacket, dispersed, disperseNo, disperseLeaves}
-use Rattle.ts.specs.PacketizeDispersed.{bytesFor, packetizeDispersedAnswer, packetizeDispersedLeaves}
+use Rattle.ts.specs.PacketizeDispersed.{packetizeDispersedAnswer, packetizeDispersedLeaves}
 use Rattle.ts.proofs.Numbers.{disperse-accepted}
 use Rattle.ts.proofs.Packets.{packets-each, packetized-length}
 use Rattle.ts.proofs.Dispersal.{place-decides, dispersed-length, dispersed-twice-is-same}

@@ -1,16 +1,11 @@
 -- Document 02, 'E5: Packetize and whiten as one call': payload in, whitened packets out, equal to the two steps in
 -- turn.
 use mathlib.Core.List.{List}
-use Prim.Native.Nat.{ℕ, _*_}
-use lib.ListN.{length}
+use Prim.Native.Nat.{ℕ}
 use Rattle.ground.specs.Answer.{fillNo, fillAnswer, fillLeaves}
 use Rattle.ground.specs.declared.Counted.{Counted}
-use Rattle.ts.specs.Packets.{count, packetized}
+use Rattle.ts.specs.Packets.{packetized, bytesFor}
 use Rattle.ts.specs.Dispersal.{dispersed}
-
--- the bytes that a payload's packets have
-abbrev pub bytesFor : List ℕ → ℕ
-bytesFor payload = 188 * count (length payload)
 
 -- ---- a payload's packets, whitened, into a lent output: its number, the bytes written, and the output
 abbrev pub packetizeDispersedNo : List ℕ → List ℕ → ℕ

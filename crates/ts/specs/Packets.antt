@@ -25,13 +25,17 @@ packet c = 0x47 ∷ padded c
 abbrev pub packetized : List ℕ → List ℕ
 packetized payload = chunks (λ (i : ℕ) (c : List ℕ). packet c) 187 (count (length payload)) 0 payload
 
+-- the bytes that a payload's packets have
+abbrev pub bytesFor : List ℕ → ℕ
+bytesFor payload = 188 * count (length payload)
+
 -- ---- packetizing a payload into a lent output: its number, the bytes written, and the output. No call is this alone:
 -- it is the first of the two steps that one call takes (document 02, E5)
 unfoldable pub packetizeNo : List ℕ → List ℕ → ℕ
-packetizeNo payload out = fillNo (188 * count (length payload)) out
+packetizeNo payload out = fillNo (bytesFor payload) out
 
 abbrev pub packetizeAnswer : List ℕ → List ℕ → Counted
-packetizeAnswer payload out = counted (packetizeNo payload out) (188 * count (length payload))
+packetizeAnswer payload out = counted (packetizeNo payload out) (bytesFor payload)
 
 abbrev pub packetizeLeaves : List ℕ → List ℕ → List ℕ
 packetizeLeaves payload out = kept (packetizeNo payload out) (written (packetized payload) out) out

@@ -46,8 +46,7 @@ loop-again : tie.Need-loop-again Inv-loop μ-loop
 loop-again c =
     let z = c .before .before .before .before .before .before .before .before .before .before .before in
     let a = z .args in
-    let at = c .before .before .before .before .before .before .before .loop in
-    let permutes = z .pre .0 in (
+    let at = c .before .before .before .before .before .before .before .loop in (
       search needs,
       search needs,
       moved-next (length (a .places .now)) (λ k. k) (λ k. getD (a .places .now) k 0) (a .cells .now) (a .out .now) (at .q) (at .out) _ _

@@ -5,7 +5,7 @@ use native.Mathlib.Omega.{arith}
 use lib.Seq.{length-take-le}
 use lib.ListN.{length}
 use Rattle.ts.proofs.WhitenedPackets.{whitened-length}
-use Rattle.ts.specs.PacketizeDispersed.{bytesFor}
+use Rattle.ts.specs.Packets.{bytesFor}
 use Rattle.ts.specs.Dispersal.{dispersed}
 use Rattle.ts.specs.Packets.{packetized}
 use Rattle.ground.proofs.Answers.{fill-refused, fill-accepted, written-front}

@@ -1,11 +1,11 @@
--- `report::text::put_column` meets its contract: the characters that stand are written. Assumes nothing.
+-- `report::inner::put_column` meets its contract: the characters that stand are written. Assumes nothing.
 use mathlib.Core.Path.{_≡_, sym}
 use native.Mathlib.Omega.{arith}
 use lib.ListN.{length, length-take}
 use lib.Seq.{length-take-le}
 use borrow.Author.Needs.{needs}
-use Rattle.report.proofs.text.put_column.Statement.{statement}
-use Rattle.report.proofs.text.put_column.Tie as tie
+use Rattle.report.proofs.inner.put_column.Statement.{statement}
+use Rattle.report.proofs.inner.put_column.Tie as tie
 
 array-share-prefix-characters : tie.Need-array-share-prefix-characters
 array-share-prefix-characters c =

@@ -1,4 +1,4 @@
--- `report::text::put` meets its contract: one character more a turn. Assumes nothing.
+-- `report::inner::put` meets its contract: one character more a turn. Assumes nothing.
 use mathlib.Core.Path.{_≡_, ap, _∙_}
 use Prim.Native.Nat.{ℕ, _+_, _-_, _≤_}
 use native.Mathlib.Omega.{arith}
@@ -6,8 +6,8 @@ use lib.ListN.{length, take, length-set}
 use lib.Seq.{sets, take-all}
 use Rattle.report.proofs.Texts.{sets-turn}
 use borrow.Author.Needs.{needs}
-use Rattle.report.proofs.text.put.Statement.{statement}
-use Rattle.report.proofs.text.put.Tie as tie
+use Rattle.report.proofs.inner.put.Statement.{statement}
+use Rattle.report.proofs.inner.put.Tie as tie
 
 abbrev Inv-loop : tie.InvT-loop
 Inv-loop out₀ at characters i₀ out i = (i ≤ length characters) × (out ≡ sets out₀ at (take i characters)) × (length out ≡ length out₀)

@@ -1,10 +1,10 @@
--- `report::text::rate_column` meets its contract: each case has the definition's characters. Assumes nothing.
+-- `report::inner::guard_column` meets its contract: each case has the definition's characters. Assumes nothing.
 use mathlib.Core.Path.{refl}
 use native.Mathlib.Omega.{arith}
-use Rattle.report.specs.Text.{rateText}
+use Rattle.report.specs.Text.{guardText}
 use borrow.Author.Needs.{needs}
-use Rattle.report.proofs.text.rate_column.Statement.{statement}
-use Rattle.report.proofs.text.rate_column.Tie as tie
+use Rattle.report.proofs.inner.guard_column.Statement.{statement}
+use Rattle.report.proofs.inner.guard_column.Tie as tie
 
 enum-told : tie.Need-enum-told
 enum-told c = search needs
@@ -18,40 +18,31 @@ enum-told-3 c = search needs
 enum-told-4 : tie.Need-enum-told-4
 enum-told-4 c = search needs
 
-enum-told-5 : tie.Need-enum-told-5
-enum-told-5 c = search needs
-
 returns : tie.Need-returns
-unfolding rateText
+unfolding guardText
 returns c = (rw (c .before .before .enum-told .given .1) refl, omega arith)
 
 returns-2 : tie.Need-returns-2
-unfolding rateText
+unfolding guardText
 returns-2 c = (rw (c .before .before .enum-told2 .given .1) refl, omega arith)
 
 returns-3 : tie.Need-returns-3
-unfolding rateText
+unfolding guardText
 returns-3 c = (rw (c .before .before .enum-told3 .given .1) refl, omega arith)
 
 returns-4 : tie.Need-returns-4
-unfolding rateText
+unfolding guardText
 returns-4 c = (rw (c .before .before .enum-told4 .given .1) refl, omega arith)
 
-returns-5 : tie.Need-returns-5
-unfolding rateText
-returns-5 c = (rw (c .before .before .enum-told5 .given .1) refl, omega arith)
-
-pub rate-column-spec : {M : Type 1} → statement M
-rate-column-spec =
+pub guard-column-spec : {M : Type 1} → statement M
+guard-column-spec =
     tie.close
     (tie.spec
     enum-told
     enum-told-2
     enum-told-3
     enum-told-4
-    enum-told-5
     returns
     returns-2
     returns-3
-    returns-4
-    returns-5)
+    returns-4)

@@ -1,10 +1,10 @@
--- `report::text::put_refused` meets its contract: the columns stand one behind the other. Assumes nothing.
+-- `report::inner::put_refused` meets its contract: the columns stand one behind the other. Assumes nothing.
 use native.Mathlib.Omega.{arith}
 use Rattle.report.specs.Text.{lineText}
 use Rattle.report.proofs.Texts.{put-then}
 use borrow.Author.Needs.{needs}
-use Rattle.report.proofs.text.put_refused.Statement.{statement}
-use Rattle.report.proofs.text.put_refused.Tie as tie
+use Rattle.report.proofs.inner.put_refused.Statement.{statement}
+use Rattle.report.proofs.inner.put_refused.Tie as tie
 
 put-decimal-requires : tie.Need-put-decimal-requires
 put-decimal-requires c κs = search needs

@@ -1,9 +1,9 @@
--- `report::text::put_columns` meets its contract: the columns stand one behind the other. Assumes nothing.
+-- `report::inner::put_columns` meets its contract: the columns stand one behind the other. Assumes nothing.
 use native.Mathlib.Omega.{arith}
 use Rattle.report.proofs.Texts.{put-then}
 use borrow.Author.Needs.{needs}
-use Rattle.report.proofs.text.put_columns.Statement.{statement}
-use Rattle.report.proofs.text.put_columns.Tie as tie
+use Rattle.report.proofs.inner.put_columns.Statement.{statement}
+use Rattle.report.proofs.inner.put_columns.Tie as tie
 
 points-column-requires : tie.Need-points-column-requires
 points-column-requires c κs = search needs

@@ -1,10 +1,10 @@
--- `report::text::points_column` meets its contract: each case has the definition's characters. Assumes nothing.
+-- `report::inner::points_column` meets its contract: each case has the definition's characters. Assumes nothing.
 use mathlib.Core.Path.{refl}
 use native.Mathlib.Omega.{arith}
 use Rattle.report.specs.Text.{pointsText}
 use borrow.Author.Needs.{needs}
-use Rattle.report.proofs.text.points_column.Statement.{statement}
-use Rattle.report.proofs.text.points_column.Tie as tie
+use Rattle.report.proofs.inner.points_column.Statement.{statement}
+use Rattle.report.proofs.inner.points_column.Tie as tie
 
 enum-told : tie.Need-enum-told
 enum-told c = search needs

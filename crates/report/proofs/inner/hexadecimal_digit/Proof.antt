@@ -1,9 +1,9 @@
--- `report::text::hexadecimal_digit` meets its contract: the test is that of the definition. Assumes nothing.
+-- `report::inner::hexadecimal_digit` meets its contract: the test is that of the definition. Assumes nothing.
 use borrow.Author.Tests.{lt-ltb, le-ltb}
 use Rattle.report.specs.Text.{hexadecimal}
 use borrow.Author.Needs.{needs}
-use Rattle.report.proofs.text.hexadecimal_digit.Statement.{statement}
-use Rattle.report.proofs.text.hexadecimal_digit.Tie as tie
+use Rattle.report.proofs.inner.hexadecimal_digit.Statement.{statement}
+use Rattle.report.proofs.inner.hexadecimal_digit.Tie as tie
 
 add-result : tie.Need-add-result
 add-result c = search needs

@@ -1,4 +1,4 @@
--- `report::text::put_decimal` meets its contract: `io` writes the definition's digits. Assumes nothing.
+-- `report::inner::put_decimal` meets its contract: `io` writes the definition's digits. Assumes nothing.
 use mathlib.Core.Path.{_∙_}
 use native.Mathlib.Omega.{arith}
 use lib.ListN.{length-take}
@@ -6,8 +6,8 @@ use Rattle.report.specs.Text.{decimal}
 use Rattle.report.specs.Inner.{Put}
 use Rattle.report.proofs.Decimal.{digits-are-decimal, decimal-length, fewest-20}
 use borrow.Author.Needs.{needs}
-use Rattle.report.proofs.text.put_decimal.Statement.{statement}
-use Rattle.report.proofs.text.put_decimal.Tie as tie
+use Rattle.report.proofs.inner.put_decimal.Statement.{statement}
+use Rattle.report.proofs.inner.put_decimal.Tie as tie
 
 decimal-requires : tie.Need-decimal-requires
 decimal-requires c κs = search needs
