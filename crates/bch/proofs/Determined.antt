@@ -11,8 +11,7 @@ use lib.ListN.{length, take}
 use lib.Seq.{take_at}
 use borrow.Author.Tests.{eqb-true}
 use Rattle.ground.specs.Refusal.{ACCEPTED, LENGTH, NOT_A_BIT, OUTPUT_SHORT, NO_WORD, ◌gives◌, first_of}
-use Rattle.ground.specs.Answer.{counted, kept, written}
-use Rattle.ground.specs.declared.Counted.{Counted}
+use Rattle.ground.specs.Answer.{kept, written}
 use Rattle.ground.specs.Bits.{Bits, are_bits}
 use Rattle.ground.specs.Digits.{digits_of}
 use Rattle.ground.proofs.Answers.{OneResult, one-result}

@@ -1,4 +1,6 @@
 // The TPS code BCH(67,53): its encoder and its decoders (EN 300 744, 4.6.2.11).
+#![tactic(auto)]
+
 ghost use Rattle.std.specs.Prelude.{◌≡◌, ◌≤◌, length, take};
 ghost use Rattle.ground.specs.Bits.{Bits};
 ghost use Rattle.bch.specs.Code.{encode};
@@ -18,7 +20,7 @@ mod slow;
 pub const NO_PLACE: u8 = 255;
 
 // The bits of a codeword that were changed: how many, 0 to 2, and their places, 0 to 66 and rising, or NO_PLACE.
-#[derive(Drop)]
+#[derive(Clone, Copy)]
 pub struct Mended {
     pub count: u8,
     pub first: u8,
@@ -26,14 +28,14 @@ pub struct Mended {
 }
 
 // How the changed bits are found: by the field's algebra, or by trying each change, which anyone can follow.
-#[derive(Drop)]
+#[derive(Clone, Copy)]
 pub enum Decoder {
     Fast,
     Slow,
 }
 
 // The bits that were changed where the information was written, or the refusal's number.
-#[derive(Drop)]
+#[derive(Clone, Copy)]
 pub enum Decoded {
     Information(Mended),
     Refused(u8),

@@ -8,7 +8,7 @@ use super::field::{gf_mul, syndrome1, syndrome3, times_x, times_x2, times_x4};
 use super::remainder::remainder;
 
 // At most two changed places of 67, rising, or that no codeword is within distance two.
-#[derive(Drop)]
+#[derive(Clone, Copy)]
 pub(crate) enum Found {
     Clean,
     One(u8),
@@ -17,7 +17,7 @@ pub(crate) enum Found {
 }
 
 // The two terms of the locator, S1 z^2 and S1^2 z, at z = x^degree.
-#[derive(Drop)]
+#[derive(Clone, Copy)]
 struct Search {
     p: u8,
     q: u8,

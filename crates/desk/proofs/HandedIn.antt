@@ -4,7 +4,7 @@ use mathlib.Core.Path.{◌≡◌, refl, sym, ap, ◌∙◌, subst}
 use mathlib.Core.Logic.{◌↔◌, ◌⊎◌, inl, inr, ⊎_elim}
 use mathlib.Core.Bool.{Bool, true, false, cond, false≢true, and-eq-true_iff}
 use mathlib.Core.List.{List, [], ◌∷◌}
-use Prim.Native.Nat.{ℕ, zero, suc, ◌+◌, ◌*◌, ◌≤◌, ◌<◌}
+use Prim.Native.Nat.{ℕ, zero, suc, ◌+◌, ◌*◌, ◌<◌}
 use native.Mathlib.Omega.{arith}
 use lib.Dec.{eqb}
 use borrow.Author.Tests.{eqb-true, eqb-false, eq-eqb}
@@ -16,7 +16,7 @@ use Rattle.desk.specs.declared.Answer.{Answer}
 use Rattle.desk.specs.declared.Answer.TheVariants.{Gathered, Complete, Refused}
 use Rattle.desk.specs.declared.Taken.{Taken}
 use Rattle.desk.specs.Desk.{parameters_of, are_same, fresh, started, afresh, wanted_by, agrees, gone_on, super_frame_by, accepted, went_on, refused, take_answer}
-use Rattle.desk.specs.SuperFrame.{Same, First, Second, Third, Whole, super_frame_of, LastOne, LastTwo, LastThree, LastFour, Completes, Last, Gathers}
+use Rattle.desk.specs.SuperFrame.{Same, Completes, Last, Gathers}
 use Rattle.desk.specs.SuperFrame.{desk_after, answer_at, Holds, nothing, one, two, three}
 use Rattle.desk.proofs.Taking.{out_of_step, mismatch, goes_on, accepted-fewer}
 use Rattle.desk.proofs.SameParameters.{same-parameters, same-holds}

@@ -6,15 +6,14 @@ use mathlib.Core.Bool.{Bool, true, false, not, cond, false≢true}
 use mathlib.Core.List.{List, [], ◌∷◌}
 use Prim.Native.Nat.{ℕ, zero, suc, ◌<◌}
 use native.Mathlib.Omega.{arith}
-use lib.Dec.{eqb, leb}
+use lib.Dec.{eqb}
 use borrow.Author.Tests.{eq-eqb, eqb-true, eqb-false, lt-leb}
-use lib.ListN.{length, get_or}
+use lib.ListN.{get_or}
 use Rattle.ground.specs.Refusal.{ACCEPTED, OUT_OF_STEP, MISMATCH, ◌gives◌, first_of}
 use Rattle.ground.specs.Answer.{kept}
 use Rattle.ground.proofs.Exactly.{Decides, by_test, not_decides, equal_decides, given-here, given-behind, said_exactly}
 use Rattle.tps.specs.declared.word.TpsWord.{TpsWord}
 use Rattle.tps.proofs.Faithful.{some-none}
-use Rattle.desk.specs.declared.Parameters.{Parameters}
 use Rattle.desk.specs.declared.Desk.{Desk}
 use Rattle.desk.specs.declared.SuperFrame.{SuperFrame}
 use Rattle.desk.specs.declared.Answer.{Answer}

@@ -10,7 +10,7 @@ use Rattle.tps.specs.declared.word.TpsWord.{TpsWord}
 use Rattle.tps.specs.Codes.{constellation_code, rate_code, guard_code}
 use Rattle.tps.proofs.Faithful.{constellation_faithful, rate_faithful, guard_faithful}
 use Rattle.desk.specs.declared.Parameters.{Parameters}
-use Rattle.desk.specs.Desk.{parameters_of, are_same}
+use Rattle.desk.specs.Desk.{are_same}
 use Rattle.desk.specs.SuperFrame.{Same}
 
 abbrev parameters : ℕ → ℕ → ℕ → Parameters

@@ -12,9 +12,9 @@ use Rattle.ground.specs.Answer.{kept}
 use Rattle.tps.specs.declared.word.TpsWord.{TpsWord}
 use Rattle.desk.specs.declared.Desk.{Desk}
 use Rattle.desk.specs.declared.SuperFrame.{SuperFrame}
-use Rattle.desk.specs.declared.Answer.TheVariants.{Gathered, Complete, Refused}
+use Rattle.desk.specs.declared.Answer.TheVariants.{Gathered, Complete}
 use Rattle.desk.specs.declared.Taken.{Taken}
-use Rattle.desk.specs.Desk.{parameters_of, are_same, fresh, afresh, wanted_by, agrees, gone_on, super_frame_by, accepted, went_on, refused, take_answer}
+use Rattle.desk.specs.Desk.{parameters_of, are_same, fresh, wanted_by, agrees, gone_on, super_frame_by, accepted, went_on, refused, take_answer}
 
 module _ (d : Desk) (w : TpsWord) where
   -- the two tests, as the definition reads them

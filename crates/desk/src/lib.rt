@@ -1,5 +1,7 @@
 // The desk: the whole cell id of a super-frame, out of the words of its four frames (document 02, E3; EN 300 744,
 // 4.6.2.4 and 4.6.2.10). A word is what crate tps has read; nothing of a signal is known here.
+#![tactic(auto)]
+
 ghost use Rattle.std.specs.Prelude.{◌≡◌};
 ghost use Rattle.desk.specs.Desk.{fresh, parameters_of, are_same, wanted_by, started, afresh, agrees};
 ghost use Rattle.desk.specs.Desk.{gone_on, super_frame_by, refused, take_answer};
@@ -12,7 +14,7 @@ const LAST: u8 = 3;
 
 // What the words of a super-frame share, by EN 300 744's codes.
 #[repr(C)]
-#[derive(Drop)]
+#[derive(Clone, Copy)]
 pub struct Parameters {
     pub constellation: u8,
     pub code_rate_hp: u8,
@@ -23,7 +25,7 @@ pub struct Parameters {
 // the parameters of the words before it. With 0 wanted none of these is read, and with 1 no low byte. Of a desk that
 // is made by hand a number above 3 is read as 0, and parameters that no word has agree with none.
 #[repr(C)]
-#[derive(Drop)]
+#[derive(Clone, Copy)]
 pub struct Desk {
     pub wanted: u8,
     pub high: u8,
@@ -32,7 +34,7 @@ pub struct Desk {
 }
 
 // A super-frame by its sixteen bits of cell id and what its words share.
-#[derive(Drop)]
+#[derive(Clone, Copy)]
 pub struct SuperFrame {
     pub cell_id: u16,
     pub constellation: ConstellationOrder,
@@ -41,7 +43,7 @@ pub struct SuperFrame {
 }
 
 // What the desk answers to a word: it is gathered, or completes a super-frame, or is refused by this number.
-#[derive(Drop)]
+#[derive(Clone, Copy)]
 pub enum Answer {
     Gathered,
     Complete(SuperFrame),
@@ -49,7 +51,7 @@ pub enum Answer {
 }
 
 // The answer to a word, and the desk after it.
-#[derive(Drop)]
+#[derive(Clone, Copy)]
 pub struct Taken {
     pub answer: Answer,
     pub desk: Desk,

@@ -1,6 +1,6 @@
 -- However an input is cut into parts, the desk's report of the parts is that of the whole input. Assumes nothing.
 use Rattle.std.proofs.Common.{◌≡◌, ℕ, List, [], ◌∷◌, ◌++◌, refl, ap, ◌∙◌}
-use Rattle.report.specs.OpenLine.{empty_line, joined}
+use Rattle.report.specs.OpenLine.{joined}
 use Rattle.report.proofs.Telling.{tell_parts, told_in_parts}
 use Rattle.deskreport.specs.declared.inner.Reader.{Reader}
 use Rattle.deskreport.specs.Text.{heading}

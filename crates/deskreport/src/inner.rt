@@ -17,7 +17,7 @@ const CLOSE_ROOM: usize = 150;
 
 // What is kept between lines: how many ended, how many completed a super-frame and how many were refused, by the
 // reading or by the desk, and the desk; behind 2^64 - 1 a count starts again.
-#[derive(Drop)]
+#[derive(Clone, Copy)]
 pub struct Tally {
     pub lines: u64,
     pub complete: u64,
@@ -27,7 +27,7 @@ pub struct Tally {
 
 // What is held of the input so far: the open line's first 17 characters, how many it has, 18 where they are more, and
 // what is kept between lines.
-#[derive(Drop)]
+#[derive(Clone, Copy)]
 pub struct Reader {
     pub held: [u8; 17],
     pub count: usize,
@@ -35,7 +35,7 @@ pub struct Reader {
 }
 
 // How many bytes of text were written, or the refusal, and the reader after the call.
-#[derive(Drop)]
+#[derive(Clone, Copy)]
 pub struct Fed {
     pub answer: Counted,
     pub reader: Reader,

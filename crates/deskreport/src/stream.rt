@@ -14,14 +14,14 @@ use report::inner::OpenLine;
 use tps::Unpacked;
 
 // What is kept, and the place behind the text, after a line has ended.
-#[derive(Drop)]
+#[derive(Clone, Copy)]
 struct Ended {
     tally: Tally,
     at: usize,
 }
 
 // The reader after a part of the input, and the place behind the text.
-#[derive(Drop)]
+#[derive(Clone, Copy)]
 pub(crate) struct PartEnd {
     pub reader: Reader,
     pub at: usize,

@@ -1,4 +1,6 @@
 // Energy dispersal (EN 300 744, 4.3.1): the register of 15 bits, and the whitening of bytes.
+#![tactic(auto)]
+
 ghost use Rattle.std.specs.Prelude.{◌≡◌, ◌/◌, ◌%◌, ◌^◌, ◌<◌, length};
 ghost use Rattle.std.specs.Int.Bits.{bit_xor};
 ghost use Rattle.dispersal.specs.Register.{start, step, steps};
@@ -14,13 +16,13 @@ pub mod inner;
 pub const DVB_T_PRBS_INIT: u16 = 0x4A80;
 
 // The whitener: its register stands in the low 15 bits.
-#[derive(Drop)]
+#[derive(Clone, Copy)]
 pub struct DvbTEnergyDispersal {
     pub reg: u16,
 }
 
 // What whitening into a lent output gives: the whitener behind it, and the bytes written or the refusal.
-#[derive(Drop)]
+#[derive(Clone, Copy)]
 pub struct Fed {
     pub whitener: DvbTEnergyDispersal,
     pub answer: Counted,

@@ -1,1 +1,2 @@
 // Document 01's small facts: a crate of definitions and a theorem, with no code.
+#![tactic(auto)]

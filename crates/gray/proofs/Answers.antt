@@ -10,7 +10,6 @@ use Rattle.ground.specs.Refusal.{ACCEPTED, LENGTH, OUTPUT_SHORT}
 use Rattle.ground.specs.Answer.{kept, written, fill_answer}
 use Rattle.ground.specs.declared.Cell.{Cell}
 use Rattle.ground.specs.declared.Counted.{Counted}
-use Rattle.ground.specs.declared.Counted.TheVariants as Counted
 use Rattle.ground.specs.Bits.{are_bits}
 use Rattle.ground.specs.Digits.{value_of}
 use Rattle.ground.specs.declared.ConstellationOrder.{ConstellationOrder}

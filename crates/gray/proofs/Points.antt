@@ -19,7 +19,7 @@ use Rattle.ground.specs.declared.ConstellationOrder.{ConstellationOrder}
 use Rattle.ground.specs.declared.ConstellationOrder.TheVariants.{Qpsk, Qam16, Qam64}
 use Rattle.ground.proofs.Bits.{bits_of_lem}
 use Rattle.gray.specs.declared.Soft.TheVariants as Soft
-use Rattle.gray.specs.declared.Mapped.TheVariants.{Point, Refused}
+use Rattle.gray.specs.declared.Mapped.TheVariants.{Point}
 use Rattle.gray.specs.Levels.{order_of, levels, axis_bits, at, is_size}
 use Rattle.gray.specs.Mapping.{index, mapped, map_answer}
 use Rattle.gray.specs.Hard.{distances, First, weave, bits_of, Wrote, demap_no, Demapped}

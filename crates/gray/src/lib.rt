@@ -1,5 +1,7 @@
 // Gray mapping of EN 300 744, section 4.3.5 and figure 9a: a bit group to a point, and a received cell to bits or to
 // soft values.
+#![tactic(auto)]
+
 ghost use Rattle.std.specs.Prelude.{◌≡◌, cond, ◌+◌, ◌*◌, ◌%◌, ◌^◌, ◌≤◌, ◌<◌, pos, length, get_or};
 ghost use Rattle.std.specs.Float.{binary32};
 ghost use Rattle.std.specs.Float.Ieee.{of_int, lt};
@@ -15,14 +17,14 @@ ghost use Rattle.gray.specs.Inner.{map_answer_at, DemappedAt, apart_at, FirstBet
 use ground::{Cell, ConstellationOrder, Counted};
 
 // A point with its two coordinates, or the refusal's number.
-#[derive(Drop)]
+#[derive(Clone, Copy)]
 pub enum Mapped {
     Point(f32, f32),
     Refused(u8),
 }
 
 // Two, four or six soft values in the order of the bits, or the refusal's number.
-#[derive(Drop)]
+#[derive(Clone, Copy)]
 pub enum Soft {
     Two(f32, f32),
     Four(f32, f32, f32, f32),
@@ -31,21 +33,21 @@ pub enum Soft {
 }
 
 // An index of an axis, with how far a received coordinate lies from it.
-#[derive(Drop)]
+#[derive(Clone, Copy)]
 struct Candidate {
     index: usize,
     apart: f32,
 }
 
 // The soft values of an axis of two bits.
-#[derive(Drop)]
+#[derive(Clone, Copy)]
 struct Pair {
     high: f32,
     low: f32,
 }
 
 // The soft values of an axis of three bits.
-#[derive(Drop)]
+#[derive(Clone, Copy)]
 struct Triple {
     high: f32,
     middle: f32,

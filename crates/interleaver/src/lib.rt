@@ -1,5 +1,7 @@
 // The symbol interleaver of the DVB-T 2K mode and its inverse (EN 300 744, 4.3.4.2): the 1,512 data cells of a symbol,
 // one direction on even symbols and the other on odd.
+#![tactic(auto)]
+
 ghost use Rattle.std.specs.Prelude.{◌≡◌, ℕ, ◌*◌, ◌≤◌, length, get_or};
 ghost use Rattle.interleaver.specs.Permutation.{interleaver2k, permutation};
 ghost use Rattle.interleaver.specs.Interleaving.{reorder_answer, Interleaves, Deinterleaves};

@@ -1,9 +1,12 @@
 // Replays a list of orion-sdr's stored answers, read from standard input, and writes how many lines of each function
 // are met. A line that begins with ~ has an answer that is wrong on purpose, mostly by one bit, and has to be found
 // different.
-ghost use Rattle.std.specs.Prelude.{◌≡◌, length};
+#![tactic(auto)]
 
-use libc::{STDIN_FILENO, STDOUT_FILENO};
+ghost use Rattle.std.specs.Prelude.{◌≡◌, ◌≤◌, length, IfOk};
+
+use std::io;
+use std::io::Read;
 
 mod constellation;
 mod line;
@@ -21,15 +24,23 @@ fn room() -> [u8; 1310720]
     [0; 1310720]
 }
 
-// Writes that a line went wrong.
-fn say_wrong(at: u64) {
-    io::write_all(STDOUT_FILENO, b"a line went wrong: ");
-    io::print_decimal(STDOUT_FILENO, at);
-    io::write_all(STDOUT_FILENO, b"\n");
+// Reads the list until its room is full or the input ends, and answers how long it is.
+fn fill(rt: &HostRuntime, list: &mut [u8]) -> io::Result<usize>
+    ensures { IfOk result (λ n. n ≤ length list.new) }
+{
+    let mut count = 0;
+    while count < list.len() {
+        let more = rt.stdin().read(&mut list[count..])?;
+        if more == 0 {
+            return Ok(count);
+        }
+        count += more;
+    }
+    Ok(count)
 }
 
-// How many lines of the list count to each row of the table.
-fn tally(list: &[u8]) -> [u64; 20] {
+// How many lines of the list count to each row of the table; each line that went wrong is written.
+fn tally(rt: &HostRuntime, list: &[u8]) -> io::Result<[u64; 20]> {
     let mut lines = [0u64; 20];
     let mut at: u64 = 0;
     let mut from = 0;
@@ -39,19 +50,19 @@ fn tally(list: &[u8]) -> [u64; 20] {
         let row = line::row_of(&list[from..to]);
         lines[row] = std::num::wrapping_add_u64(lines[row], 1);
         if row == table::WRONG {
-            say_wrong(at);
+            println!(rt; "a line went wrong: {at}")?;
         }
         from = to + 1;
     }
-    lines
+    Ok(lines)
 }
 
-fn main() {
+fn main(rt: HostRuntime) -> io::Result<()> {
     let mut list = room();
-    let n = io::read_full(STDIN_FILENO, &mut list);
+    let n = fill(&rt, &mut list)?;
     if n == 1310720 {
-        io::write_all(STDOUT_FILENO, b"the list is longer than its room\n");
-        return;
+        return println!(rt; "the list is longer than its room");
     }
-    table::say(tally(&list[..n]));
+    let lines = tally(&rt, &list[..n])?;
+    table::say(&rt, lines)
 }

@@ -3,7 +3,8 @@ ghost use Rattle.std.specs.Prelude.{◌≤◌, length};
 
 use crate::{constellation, packets, sessions, signals, symbols, words};
 use ground::Counted;
-use libc::STDOUT_FILENO;
+use std::io;
+use std::io::Print;
 
 // The rows of the report, 24 columns each: the functions, whose place is their number in `answer`, and two more.
 const NAMES: [u8; 480] = *b"\
@@ -50,15 +51,16 @@ pub(crate) fn function_of(name: &[u8]) -> usize
 }
 
 // Writes the rows, each with its number of lines.
-pub(crate) fn say(lines: [u64; 20]) {
+pub(crate) fn say(rt: &HostRuntime, lines: [u64; 20]) -> io::Result<()> {
     let names = NAMES;
     let mut i = 0;
     while i < 20 {
-        io::write_all(STDOUT_FILENO, &names[24 * i..24 * i + 24]);
-        io::print_decimal(STDOUT_FILENO, lines[i]);
-        io::write_all(STDOUT_FILENO, b"\n");
+        rt.stdout().write_all(&names[24 * i..24 * i + 24])?;
+        let count = lines[i];
+        println!(rt; "{count}")?;
         i += 1;
     }
+    Ok(())
 }
 
 // The answer of a function; the bytes that it gives are laid at the front of the room.

@@ -1,5 +1,5 @@
 -- The report's lines for a part of the input, written line by line: the report is told by its counts. Assumes nothing.
-use Rattle.std.proofs.Common.{◌≡◌, ℕ, ◌≤◌, List, length, refl, ap₂}
+use Rattle.std.proofs.Common.{◌≡◌, ℕ, ◌≤◌, List, length, ap₂}
 use Rattle.report.specs.declared.Reader.{Reader}
 use Rattle.report.specs.declared.inner.OpenLine.{OpenLine}
 use Rattle.report.specs.declared.stream.Ended.{Ended}

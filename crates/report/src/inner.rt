@@ -12,14 +12,14 @@ use ground::ConstellationOrder;
 use tps::{Decoder, GuardInterval, PunctureRate, Unpacked};
 
 // A line that hasn't ended: its first 17 characters, and how many it has, 18 where they are more.
-#[derive(Drop)]
+#[derive(Clone, Copy)]
 pub struct OpenLine {
     pub held: [u8; 17],
     pub count: usize,
 }
 
 // What was taken of a part: how many characters the line has now, the place behind them, and whether it ended there.
-#[derive(Drop)]
+#[derive(Clone, Copy)]
 pub struct Taken {
     pub count: usize,
     pub next: usize,
@@ -79,7 +79,7 @@ impl OpenLine {
 // ---- texts, each written into the lent output from a place on; the answer is the place behind it
 
 // A column of a line: its characters, and how many of them stand.
-#[derive(Drop)]
+#[derive(Clone, Copy)]
 struct Column([u8; 5], usize);
 
 // Writes characters.

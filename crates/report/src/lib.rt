@@ -1,5 +1,7 @@
 // The report on received TPS words: what a line of digits says, the text of its line, and the whole report of an input
 // that comes in parts of any size.
+#![tactic(auto)]
+
 ghost use Rattle.std.specs.Prelude.{◌≡◌};
 ghost use Rattle.report.specs.Reading.{read_answer};
 ghost use Rattle.report.specs.Stream.{fresh};
@@ -23,7 +25,7 @@ const LINE_ROOM: usize = 60;
 // many lines ended, and how many of those were refused; behind 2^64 - 1 a count starts again. Of a reader that is made
 // by hand a count above 17 is read as 18.
 #[repr(C)]
-#[derive(Drop)]
+#[derive(Clone, Copy)]
 pub struct Reader {
     pub held: [u8; 17],
     pub count: usize,
@@ -32,7 +34,7 @@ pub struct Reader {
 }
 
 // How many bytes of text were written, or the refusal, and the reader after the call.
-#[derive(Drop)]
+#[derive(Clone, Copy)]
 pub struct Fed {
     pub answer: Counted,
     pub reader: Reader,

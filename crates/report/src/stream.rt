@@ -10,7 +10,7 @@ use super::{Reader, inner, text};
 use tps::{Decoder, Unpacked};
 
 // The counts of lines and of refused lines, and the place behind the text, after a line has ended.
-#[derive(Drop)]
+#[derive(Clone, Copy)]
 struct Ended {
     lines: u64,
     refused: u64,
@@ -18,7 +18,7 @@ struct Ended {
 }
 
 // The reader after a part of the input, and the place behind the text.
-#[derive(Drop)]
+#[derive(Clone, Copy)]
 pub(crate) struct PartEnd {
     pub reader: Reader,
     pub at: usize,

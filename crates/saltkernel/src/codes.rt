@@ -10,7 +10,7 @@ use bch::{Decoded, Decoder};
 
 // A count of information bits and the bits that were changed, or a refusal's number, the counts 0 and no place.
 #[repr(C)]
-#[derive(Drop)]
+#[derive(Clone, Copy)]
 pub struct SaltDecoded {
     pub number: u8,
     pub mended: u8, // how many of the 67 bits were changed, 0 to 2

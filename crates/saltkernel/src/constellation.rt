@@ -10,7 +10,7 @@ use ground::Cell;
 
 // The first `count` values, 2, 4 or 6, and +0.0 behind them; or a refusal's number, the count 0 and +0.0 throughout.
 #[repr(C)]
-#[derive(Drop)]
+#[derive(Clone, Copy)]
 pub struct SaltSoft {
     pub number: u8,
     pub count: usize,

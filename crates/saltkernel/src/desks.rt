@@ -16,7 +16,7 @@ use tps::inner::WordRead;
 // The answer to a word, and the desk after it. Where `complete` is 1 a super-frame is complete, with its cell id and
 // its parameters by their codes; else these are 0.
 #[repr(C)]
-#[derive(Drop)]
+#[derive(Clone, Copy)]
 pub struct SaltDeskTaken {
     pub number: u8,
     pub complete: u8, // 1 where the word completes a super-frame, else 0

@@ -15,7 +15,7 @@ use tps::{TpsBit, TpsDecoder, TpsEncoder};
 
 // The count or the refusal, and the sender behind the symbol or, refused, as it went in.
 #[repr(C)]
-#[derive(Drop)]
+#[derive(Clone, Copy)]
 pub struct SaltSent {
     pub answer: SaltCounted,
     pub encoder: TpsEncoder,
@@ -23,7 +23,7 @@ pub struct SaltSent {
 
 // The symbol's bit and the receiver behind it; or a refusal's number, the bit 0 and the receiver as it went in.
 #[repr(C)]
-#[derive(Drop)]
+#[derive(Clone, Copy)]
 pub struct SaltTpsFed {
     pub number: u8,
     pub bit: u8,
@@ -32,7 +32,7 @@ pub struct SaltTpsFed {
 
 // The symbol's bit, or a refusal's number and the bit 0.
 #[repr(C)]
-#[derive(Drop)]
+#[derive(Clone, Copy)]
 pub struct SaltTpsBit {
     pub number: u8,
     pub bit: u8,

@@ -21,6 +21,8 @@
 // a byte that is 0 or 1.
 //
 // ETSI EN 300 744 is the standard that sections (4.3.1 and others) refer to.
+#![tactic(auto)]
+
 ghost use Rattle.saltkernel.specs.Numbers.{Says};
 
 use ground::Counted;
@@ -43,7 +45,7 @@ mod words;
 
 // A count, or a refusal's number and the count 0.
 #[repr(C)]
-#[derive(Drop)]
+#[derive(Clone, Copy)]
 pub struct SaltCounted {
     pub number: u8,
     pub count: usize,
@@ -51,7 +53,7 @@ pub struct SaltCounted {
 
 // A cell by value.
 #[repr(C)]
-#[derive(Drop)]
+#[derive(Clone, Copy)]
 pub struct SaltCell {
     pub re: f32,
     pub im: f32,
@@ -59,7 +61,7 @@ pub struct SaltCell {
 
 // A cell, or a refusal's number and the cell +0.0, +0.0.
 #[repr(C)]
-#[derive(Drop)]
+#[derive(Clone, Copy)]
 pub struct SaltMapped {
     pub number: u8,
     pub point: SaltCell,

@@ -10,7 +10,7 @@ use super::{SaltCounted, numbers_of, sizes};
 
 // The bytes of a packet.
 #[repr(C)]
-#[derive(Drop)]
+#[derive(Clone, Copy)]
 pub struct SaltPacket {
     pub bytes: [u8; sizes::PACKET_BYTES],
 }

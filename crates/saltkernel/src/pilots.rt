@@ -16,7 +16,7 @@ use carriers::{Active, AsActive, AsBin, AsSigned, Bin, Boosted, Signed};
 
 // An active index or a bin, or a refusal's number and the index 0.
 #[repr(C)]
-#[derive(Drop)]
+#[derive(Clone, Copy)]
 pub struct SaltCarrier {
     pub number: u8,
     pub index: u16,
@@ -24,7 +24,7 @@ pub struct SaltCarrier {
 
 // A signed index, or a refusal's number and the index 0.
 #[repr(C)]
-#[derive(Drop)]
+#[derive(Clone, Copy)]
 pub struct SaltSigned {
     pub number: u8,
     pub index: i16,
@@ -32,14 +32,14 @@ pub struct SaltSigned {
 
 // The continual carriers, in rising active order.
 #[repr(C)]
-#[derive(Drop)]
+#[derive(Clone, Copy)]
 pub struct SaltContinual {
     pub carriers: [u16; sizes::CONTINUAL_CARRIERS],
 }
 
 // The TPS carriers, in rising active order.
 #[repr(C)]
-#[derive(Drop)]
+#[derive(Clone, Copy)]
 pub struct SaltTps {
     pub carriers: [u16; sizes::TPS_CARRIERS],
 }

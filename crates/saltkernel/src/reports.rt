@@ -19,7 +19,7 @@ use tps::{Decoder, Mended, Unpacked};
 
 // The bytes written or the refusal, and the reader behind the part or, refused, as it went in.
 #[repr(C)]
-#[derive(Drop)]
+#[derive(Clone, Copy)]
 pub struct SaltReaderFed {
     pub answer: SaltCounted,
     pub reader: Reader,

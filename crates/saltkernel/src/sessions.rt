@@ -17,7 +17,7 @@ use tps::TpsBit;
 
 // The symbol's TPS bit and the session behind it; or a refusal's number, the bit 0 and the session as it went in.
 #[repr(C)]
-#[derive(Drop)]
+#[derive(Clone, Copy)]
 pub struct SaltSessionFed {
     pub number: u8,
     pub bit: u8,
@@ -26,7 +26,7 @@ pub struct SaltSessionFed {
 
 // The session before its latest symbol; or a refusal's number and the session as it went in.
 #[repr(C)]
-#[derive(Drop)]
+#[derive(Clone, Copy)]
 pub struct SaltSessionStepped {
     pub number: u8,
     pub session: Session,

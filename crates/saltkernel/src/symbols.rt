@@ -14,21 +14,21 @@ use grid::{ExtractAnswer, MapAnswer, ScatteredPilotExtractor, ScatteredPilotMapp
 
 // The mapper: the phase of its next symbol, taken modulo 4.
 #[repr(C)]
-#[derive(Drop)]
+#[derive(Clone, Copy)]
 pub struct SaltScatteredPilotMapper {
     pub phase: usize,
 }
 
 // The extractor: the phase of its next symbol, taken modulo 4.
 #[repr(C)]
-#[derive(Drop)]
+#[derive(Clone, Copy)]
 pub struct SaltScatteredPilotExtractor {
     pub phase: usize,
 }
 
 // The mapper in the next phase; or a refusal's number and the mapper as it went in.
 #[repr(C)]
-#[derive(Drop)]
+#[derive(Clone, Copy)]
 pub struct SaltMapAnswer {
     pub number: u8,
     pub mapper: SaltScatteredPilotMapper,
@@ -36,7 +36,7 @@ pub struct SaltMapAnswer {
 
 // The extractor in the next phase; or a refusal's number and the extractor as it went in.
 #[repr(C)]
-#[derive(Drop)]
+#[derive(Clone, Copy)]
 pub struct SaltExtractAnswer {
     pub number: u8,
     pub extractor: SaltScatteredPilotExtractor,

@@ -9,14 +9,14 @@ use dispersal::DvbTEnergyDispersal;
 
 // The whitener: its register is the low 15 bits.
 #[repr(C)]
-#[derive(Drop)]
+#[derive(Clone, Copy)]
 pub struct SaltDvbTEnergyDispersal {
     pub reg: u16,
 }
 
 // A whitener, and the count or the refusal.
 #[repr(C)]
-#[derive(Drop)]
+#[derive(Clone, Copy)]
 pub struct SaltFed {
     pub whitener: SaltDvbTEnergyDispersal,
     pub answer: SaltCounted,

@@ -12,7 +12,7 @@ use tps::{TpsWord, Unpacked};
 
 // The parameters that a frame signals; constellation, rate and guard interval by their codes.
 #[repr(C)]
-#[derive(Drop)]
+#[derive(Clone, Copy)]
 pub struct SaltTpsWord {
     pub frame_number: u8, // its low two bits are sent
     pub constellation: u8, // 0 QPSK, 1 16-QAM, 2 64-QAM
@@ -23,7 +23,7 @@ pub struct SaltTpsWord {
 
 // A word and the bits that were changed to read it, or a refusal's number, zeros and no place.
 #[repr(C)]
-#[derive(Drop)]
+#[derive(Clone, Copy)]
 pub struct SaltUnpacked {
     pub number: u8,
     pub word: SaltTpsWord,

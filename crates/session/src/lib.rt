@@ -1,4 +1,6 @@
 // The receive session: the extractor and the TPS decoder joined, with a journal of two frames that steps back.
+#![tactic(auto)]
+
 ghost use Rattle.std.specs.Prelude.{◌≡◌, ◌-◌, ◌≤◌, ◌<◌, length};
 ghost use Rattle.carriers.specs.Mode.{mode2k};
 ghost use Rattle.grid.specs.Calls.{phase_of, extract_leaves};
@@ -26,7 +28,7 @@ pub const LAST_FRAME: usize = 1000000;
 // frames are before it since the reset, and whether a later one was begun, which any number but 0 says. A count above
 // 68 is read as 68, one of frames above 1,000,000 as that, a held bit above 1 as 1, and a bit that doesn't stand as 0.
 #[repr(C)]
-#[derive(Drop)]
+#[derive(Clone, Copy)]
 pub struct Session {
     pub prev: [Cell; TPS_CARRIER_COUNT],
     pub bits: [u8; TPS_SYMBOLS_PER_FRAME],
@@ -36,21 +38,21 @@ pub struct Session {
 }
 
 // The TPS bit of a symbol, or the refusal, and the session after the call.
-#[derive(Drop)]
+#[derive(Clone, Copy)]
 pub struct Fed {
     pub answer: TpsBit,
     pub session: Session,
 }
 
 // A step back was done, or the refusal's number.
-#[derive(Drop)]
+#[derive(Clone, Copy)]
 pub enum StepBack {
     Done,
     Refused(u8),
 }
 
 // What a step back answers, and the session after the call.
-#[derive(Drop)]
+#[derive(Clone, Copy)]
 pub struct SteppedBack {
     pub answer: StepBack,
     pub session: Session,

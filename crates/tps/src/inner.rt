@@ -12,7 +12,7 @@ use carriers::TPS_CARRIER_COUNT;
 use ground::{Cell, ConstellationOrder};
 
 // The codes of a word's fields, and its frame number and cell id.
-#[derive(Drop)]
+#[derive(Clone, Copy)]
 pub struct Codes {
     pub frame: u8,
     pub constellation: u8,
@@ -22,28 +22,28 @@ pub struct Codes {
 }
 
 // What a constellation code says.
-#[derive(Drop)]
+#[derive(Clone, Copy)]
 enum ConstellationRead {
     Known(ConstellationOrder),
     Reserved,
 }
 
 // What a rate code says.
-#[derive(Drop)]
+#[derive(Clone, Copy)]
 enum RateRead {
     Known(PunctureRate),
     Reserved,
 }
 
 // What a guard code says.
-#[derive(Drop)]
+#[derive(Clone, Copy)]
 enum GuardRead {
     Known(GuardInterval),
     Reserved,
 }
 
 // What the codes of a word say.
-#[derive(Drop)]
+#[derive(Clone, Copy)]
 pub enum WordRead {
     Known(TpsWord),
     Reserved,

@@ -1,4 +1,6 @@
 // TPS: the word, its sender and its receiver (EN 300 744, 4.6).
+#![tactic(auto)]
+
 pub mod inner;
 pub mod lent;
 pub mod receiver;

@@ -12,7 +12,7 @@ use ground::{Cell, Counted};
 // The receiver: the previous symbol's cells, the bits, and how many symbols stand. A count above 68 is read as 68, and
 // a held bit above 1 as 1, which a feed makes it; it makes bits that don't stand 0.
 #[repr(C)]
-#[derive(Drop)]
+#[derive(Clone, Copy)]
 pub struct TpsDecoder {
     pub prev: [Cell; TPS_CARRIER_COUNT],
     pub bits: [u8; TPS_SYMBOLS_PER_FRAME],
@@ -20,14 +20,14 @@ pub struct TpsDecoder {
 }
 
 // A bit, or the refusal's number.
-#[derive(Drop)]
+#[derive(Clone, Copy)]
 pub enum TpsBit {
     Bit(u8),
     Refused(u8),
 }
 
 // The bit of a symbol, or the refusal, and the receiver after the call.
-#[derive(Drop)]
+#[derive(Clone, Copy)]
 pub struct Fed {
     pub answer: TpsBit,
     pub decoder: TpsDecoder,

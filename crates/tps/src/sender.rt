@@ -11,14 +11,14 @@ use ground::{Cell, Counted};
 
 // The sender: each carrier's sign, and whether the frame's first symbol is sent, which any number but 0 says.
 #[repr(C)]
-#[derive(Drop)]
+#[derive(Clone, Copy)]
 pub struct TpsEncoder {
     pub signs: [f32; TPS_CARRIER_COUNT],
     pub started: u8,
 }
 
 // How many cells were written, or the refusal, and the sender after the call.
-#[derive(Drop)]
+#[derive(Clone, Copy)]
 pub struct Sent {
     pub answer: Counted,
     pub encoder: TpsEncoder,

@@ -11,7 +11,7 @@ use bch::{Decoded, Decoder, Mended};
 use ground::{ConstellationOrder, Counted};
 
 // The rate of the inner code.
-#[derive(Drop)]
+#[derive(Clone, Copy)]
 pub enum PunctureRate {
     R1_2,
     R2_3,
@@ -21,7 +21,7 @@ pub enum PunctureRate {
 }
 
 // The guard interval, as a part of the symbol.
-#[derive(Drop)]
+#[derive(Clone, Copy)]
 pub enum GuardInterval {
     G1_32,
     G1_16,
@@ -30,7 +30,7 @@ pub enum GuardInterval {
 }
 
 // The parameters that a frame signals (EN 300 744, 4.6.2).
-#[derive(Drop)]
+#[derive(Clone, Copy)]
 pub struct TpsWord {
     pub frame_number: u8,
     pub constellation: ConstellationOrder,
@@ -40,7 +40,7 @@ pub struct TpsWord {
 }
 
 // A word and the bits of s1..s67 that were changed to read it, place i being s(i+1), or the refusal's number.
-#[derive(Drop)]
+#[derive(Clone, Copy)]
 pub enum Unpacked {
     Word(TpsWord, Mended),
     Refused(u8),

@@ -1,13 +1,16 @@
 // tpsdesk: reads received TPS words from standard input, one a line, hands them to the desk, and writes the desk's
 // report to standard output.
+#![tactic(auto)]
+
 ghost use Rattle.std.specs.Prelude.{◌≡◌, length};
 
 use deskreport::inner::Reader;
 use ground::Counted;
-use libc::{STDIN_FILENO, STDOUT_FILENO};
+use std::io;
+use std::io::{Print, Read};
 
 // The reader after a part of the input, and whether there is more to read.
-#[derive(Drop)]
+#[derive(Clone, Copy)]
 struct Progress {
     reader: Reader,
     more: bool,
@@ -27,65 +30,85 @@ fn text_room() -> [u8; 491520]
     [0; 491520]
 }
 
+// The words of an error's text, without the number that it ends with.
+fn words_of(told: &str) -> &str {
+    match told.split_once(" (os error ") {
+        Some((words, _)) => words,
+        None => told,
+    }
+}
+
+// Says on standard error that a read or a write failed, and why.
+fn say_failed(rt: &HostRuntime, what: &str, error: io::Error) -> io::Result<()> {
+    let told = format!(in rt.alloc(); "{error}")?;
+    let words = words_of(told.as_str());
+    eprintln!(rt; "tpsdesk: {what}: {words}")
+}
+
 // Writes the text that a call left at the front of its output, and answers whether it was written.
-fn write_text(answer: Counted, text: &[u8]) -> bool {
+fn write_text(rt: &HostRuntime, answer: Counted, text: &[u8]) -> io::Result<bool> {
     if let Counted::Count(n) = answer {
         if n <= text.len() {
-            if io::write_all(STDOUT_FILENO, &text[..n]) {
-                return true;
+            if let Err(error) = rt.stdout().write_all(&text[..n]) {
+                say_failed(rt, "output", error)?;
+                return Ok(false);
             }
+            return Ok(true);
         }
     }
-    os::fail(b"tpsdesk: output");
-    false
+    say_failed(rt, "output", io::Error::other("no room for the text"))?;
+    Ok(false)
 }
 
 // Reads a part of the input and writes its texts; at the input's end it writes the closing line.
-fn turn(reader: Reader, part: &mut [u8], text: &mut [u8]) -> Progress {
-    let got = libc::read(STDIN_FILENO, part);
-    if got < 0 {
-        os::fail(b"tpsdesk: input");
-        return Progress {
+fn turn(
+    rt: &HostRuntime,
+    reader: Reader,
+    part: &mut [u8],
+    text: &mut [u8],
+) -> io::Result<Progress> {
+    let n = match rt.stdin().read(part) {
+        Ok(n) => n,
+        Err(error) => {
+            say_failed(rt, "input", error)?;
+            return Ok(Progress {
+                reader,
+                more: false,
+            });
+        }
+    };
+    if n == 0 {
+        write_text(rt, reader.close(text), text)?;
+        return Ok(Progress {
             reader,
             more: false,
-        };
+        });
     }
-    if got == 0 {
-        write_text(reader.close(text), text);
-        return Progress {
-            reader,
-            more: false,
-        };
-    }
-    let n = io::count(got, part);
     let fed = reader.feed(&part[..n], text);
-    let answer = fed.answer;
-    let after = fed.reader;
-    Progress {
-        reader: after,
-        more: write_text(answer, text),
-    }
+    Ok(Progress {
+        reader: fed.reader,
+        more: write_text(rt, fed.answer, text)?,
+    })
 }
 
-// Writes the heading and goes on until the input ends; it counts its turns down from a number that no run uses up.
-fn run(part: &mut [u8], text: &mut [u8]) {
-    if !write_text(deskreport::inner::put_heading(text), text) {
-        return;
+// Writes the heading and goes on until the input ends; no run uses up its turns.
+fn run(rt: &HostRuntime, part: &mut [u8], text: &mut [u8]) -> io::Result<()> {
+    if !write_text(rt, deskreport::inner::put_heading(text), text)? {
+        return Ok(());
     }
     let mut reader = Reader::new();
-    let mut turns = u64::MAX;
-    while turns > 0 {
-        let next = turn(reader, part, text);
+    for _ in 0..u64::MAX {
+        let next = turn(rt, reader, part, text)?;
         if !next.more {
-            return;
+            break;
         }
         reader = next.reader;
-        turns -= 1;
     }
+    Ok(())
 }
 
-fn main() {
+fn main(rt: HostRuntime) -> io::Result<()> {
     let mut part = part_room();
     let mut text = text_room();
-    run(&mut part, &mut text);
+    run(&rt, &mut part, &mut text)
 }

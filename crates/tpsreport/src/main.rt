@@ -1,21 +1,24 @@
 // tpsreport: reads received TPS words from standard input, one a line, and writes the report to standard output. With
 // the argument --slow the lines are read by the slow decoder.
+#![tactic(auto)]
+
 ghost use Rattle.std.specs.Prelude.{◌≡◌, length};
 
 use bch::Decoder;
 use ground::Counted;
-use libc::{STDERR_FILENO, STDIN_FILENO, STDOUT_FILENO};
 use report::Reader;
+use std::io::{Print, Read};
+use std::{env, io};
 
 // What the arguments ask for.
-#[derive(Drop)]
+#[derive(Clone, Copy)]
 enum Asked {
     Report(Decoder),
     Unknown,
 }
 
 // The reader after a part of the input, and whether there is more to read.
-#[derive(Drop)]
+#[derive(Clone, Copy)]
 struct Progress {
     reader: Reader,
     more: bool,
@@ -35,89 +38,104 @@ fn text_room() -> [u8; 491520]
     [0; 491520]
 }
 
+// The words of an error's text, without the number that it ends with.
+fn words_of(told: &str) -> &str {
+    match told.split_once(" (os error ") {
+        Some((words, _)) => words,
+        None => told,
+    }
+}
+
+// Says on standard error that a read or a write failed, and why.
+fn say_failed(rt: &HostRuntime, what: &str, error: io::Error) -> io::Result<()> {
+    let told = format!(in rt.alloc(); "{error}")?;
+    let words = words_of(told.as_str());
+    eprintln!(rt; "tpsreport: {what}: {words}")
+}
+
 // Writes the text that a call left at the front of its output, and answers whether it was written.
-fn write_text(answer: Counted, text: &[u8]) -> bool {
+fn write_text(rt: &HostRuntime, answer: Counted, text: &[u8]) -> io::Result<bool> {
     if let Counted::Count(n) = answer {
         if n <= text.len() {
-            if io::write_all(STDOUT_FILENO, &text[..n]) {
-                return true;
+            if let Err(error) = rt.stdout().write_all(&text[..n]) {
+                say_failed(rt, "output", error)?;
+                return Ok(false);
             }
+            return Ok(true);
         }
     }
-    os::fail(b"tpsreport: output");
-    false
+    say_failed(rt, "output", io::Error::other("no room for the text"))?;
+    Ok(false)
 }
 
 // Reads a part of the input and writes its lines of the report; at the input's end it writes the closing line.
-fn turn(decoder: Decoder, reader: Reader, part: &mut [u8], text: &mut [u8]) -> Progress {
-    let got = libc::read(STDIN_FILENO, part);
-    if got < 0 {
-        os::fail(b"tpsreport: input");
-        return Progress {
+fn turn(
+    rt: &HostRuntime,
+    decoder: Decoder,
+    reader: Reader,
+    part: &mut [u8],
+    text: &mut [u8],
+) -> io::Result<Progress> {
+    let n = match rt.stdin().read(part) {
+        Ok(n) => n,
+        Err(error) => {
+            say_failed(rt, "input", error)?;
+            return Ok(Progress {
+                reader,
+                more: false,
+            });
+        }
+    };
+    if n == 0 {
+        write_text(rt, reader.close(decoder, text), text)?;
+        return Ok(Progress {
             reader,
             more: false,
-        };
+        });
     }
-    if got == 0 {
-        write_text(reader.close(decoder, text), text);
-        return Progress {
-            reader,
-            more: false,
-        };
-    }
-    let n = io::count(got, part);
     let fed = reader.feed(decoder, &part[..n], text);
-    let answer = fed.answer;
-    let after = fed.reader;
-    Progress {
-        reader: after,
-        more: write_text(answer, text),
-    }
+    Ok(Progress {
+        reader: fed.reader,
+        more: write_text(rt, fed.answer, text)?,
+    })
 }
 
-// Writes the heading and goes on until the input ends; it counts its turns down from a number that no run uses up.
-fn run(decoder: Decoder, part: &mut [u8], text: &mut [u8]) {
-    if !write_text(report::put_heading(text), text) {
-        return;
+// Writes the heading and goes on until the input ends; no run uses up its turns.
+fn run(rt: &HostRuntime, decoder: Decoder, part: &mut [u8], text: &mut [u8]) -> io::Result<()> {
+    if !write_text(rt, report::put_heading(text), text)? {
+        return Ok(());
     }
     let mut reader = Reader::new();
-    let mut turns = u64::MAX;
-    while turns > 0 {
-        let next = turn(decoder, reader, part, text);
+    for _ in 0..u64::MAX {
+        let next = turn(rt, decoder, reader, part, text)?;
         if !next.more {
-            return;
+            break;
         }
         reader = next.reader;
-        turns -= 1;
     }
-}
-
-// Whether an argument of six characters is --slow.
-fn is_slow(word: [u8; 6]) -> bool {
-    let dashes = word[0] == b'-' && word[1] == b'-';
-    dashes && word[2] == b's' && word[3] == b'l' && word[4] == b'o' && word[5] == b'w'
+    Ok(())
 }
 
 // What the arguments ask for: the fast decoder where there is none, the slow one where --slow is the only one.
-fn arguments() -> Asked {
-    let count = os::arg_count();
-    if count < 2 {
+fn arguments(rt: &HostRuntime) -> Asked {
+    let Ok(mut words) = env::args(rt) else {
+        return Asked::Unknown;
+    };
+    words.next();
+    let Some(word) = words.next() else {
         return Asked::Report(Decoder::Fast);
-    }
-    let mut word = [0u8; 6];
-    let length = os::arg(1, &mut word);
-    if count == 2 && length == 6 && is_slow(word) {
+    };
+    if word.as_str() == "--slow" && words.next().is_none() {
         return Asked::Report(Decoder::Slow);
     }
     Asked::Unknown
 }
 
-fn main() {
-    let Asked::Report(decoder) = arguments() else {
-        io::write_all(STDERR_FILENO, b"tpsreport: --slow is the only argument\n");
-        return;
+fn main(rt: HostRuntime) -> io::Result<()> {
+    let Asked::Report(decoder) = arguments(&rt) else {
+        return eprintln!(rt; "tpsreport: --slow is the only argument");
     };
     let mut part = part_room();
     let mut text = text_room();
-    run(decoder, &mut part, &mut text);
+    run(&rt, decoder, &mut part, &mut text)
 }

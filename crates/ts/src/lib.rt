@@ -1,4 +1,6 @@
 // Transport packets, null packets and stuffing, and energy dispersal over packets (EN 300 744, 4.3.1).
+#![tactic(auto)]
+
 ghost use Rattle.std.specs.Prelude.{◌≡◌, ◌/◌, ◌%◌, length};
 ghost use Rattle.ts.specs.Packets.{count, depacketize_answer, depacketize_leaves};
 ghost use Rattle.ts.specs.Stuffing.{null, nulls, stuff_answer, stuff_leaves};

@@ -1,28 +1,24 @@
 // tsdisperse: makes whitened transport packets of its standard input and writes them to standard output; with --back it
 // takes whitened packets and writes their payloads, filling zeros included.
-ghost use Rattle.std.specs.Prelude.{◌≡◌, ◌≤◌, length};
+#![tactic(auto)]
+
+ghost use Rattle.std.specs.Prelude.{◌≡◌, length, IfOk};
 ghost use Rattle.io.specs.Counts.{IsPrefixLen};
 
 use ground::Counted;
-use libc::{STDERR_FILENO, STDIN_FILENO, STDOUT_FILENO};
-
-// How many bytes stand at the front of a buffer that was to be filled, and whether a read failed.
-#[derive(Drop)]
-struct Filled {
-    count: usize,
-    failed: bool,
-}
+use std::io::{Print, Read};
+use std::{env, io};
 
 // What a part of the input came to: written, refused by the library, or not written.
-#[derive(Drop)]
+#[derive(Clone, Copy)]
 enum Came {
     Written,
     Refused,
-    Unwritten,
+    Unwritten(io::Error),
 }
 
 // What a turn left: go on, or stop.
-#[derive(Drop)]
+#[derive(Clone, Copy)]
 enum Next {
     More,
     End,
@@ -42,148 +38,144 @@ fn packets_room() -> [u8; 48128]
     [0; 48128]
 }
 
+// The words of an error's text, without the number that it ends with.
+fn words_of(told: &str) -> &str {
+    match told.split_once(" (os error ") {
+        Some((words, _)) => words,
+        None => told,
+    }
+}
+
+// Says on standard error that a read or a write failed, and why.
+fn say_failed(rt: &HostRuntime, what: &str, error: io::Error) -> io::Result<()> {
+    let told = format!(in rt.alloc(); "{error}")?;
+    let words = words_of(told.as_str());
+    eprintln!(rt; "tsdisperse: {what}: {words}")
+}
+
 // Writes what a call left at the front of its output, and says what that came to.
-fn write_front(answer: Counted, out: &[u8]) -> Came {
+fn write_front(rt: &HostRuntime, answer: Counted, out: &[u8]) -> Came {
     let Counted::Count(n) = answer else {
         return Came::Refused;
     };
     if n <= out.len() {
-        if io::write_all(STDOUT_FILENO, &out[..n]) {
-            return Came::Written;
-        }
+        return match rt.stdout().write_all(&out[..n]) {
+            Ok(()) => Came::Written,
+            Err(error) => Came::Unwritten(error),
+        };
     }
-    Came::Unwritten
+    Came::Unwritten(io::Error::other("no room for the output"))
 }
 
 // Writes the packets of a payload, whitened from the beginning of a group on.
-fn send(payload: &[u8], out: &mut [u8]) -> Came {
-    write_front(ts::ts_packetize_dispersed(payload, out), out)
+fn send(rt: &HostRuntime, payload: &[u8], out: &mut [u8]) -> Came {
+    write_front(rt, ts::ts_packetize_dispersed(payload, out), out)
 }
 
 // Writes the payloads of whitened packets that begin a group.
-fn take_back(packets: &mut [u8], out: &mut [u8]) -> Came {
+fn take_back(rt: &HostRuntime, packets: &mut [u8], out: &mut [u8]) -> Came {
     ts::ts_energy_disperse(packets);
-    write_front(ts::ts_depacketize(packets, out), out)
+    write_front(rt, ts::ts_depacketize(packets, out), out)
 }
 
 // Sends a part of the input or takes it back.
-fn put(back: bool, part: &mut [u8], out: &mut [u8]) -> Came {
+fn put(rt: &HostRuntime, back: bool, part: &mut [u8], out: &mut [u8]) -> Came {
     if back {
-        return take_back(part, out);
+        return take_back(rt, part, out);
     }
-    send(part, out)
+    send(rt, part, out)
 }
 
 // Says on standard error why a part wasn't written, and answers whether it was.
-fn is_written(came: Came) -> bool {
+fn is_written(rt: &HostRuntime, came: Came) -> io::Result<bool> {
     match came {
-        Came::Written => true,
+        Came::Written => Ok(true),
         Came::Refused => {
-            io::write_all(STDERR_FILENO, b"tsdisperse: input: not whole packets\n");
-            false
+            eprintln!(rt; "tsdisperse: input: not whole packets")?;
+            Ok(false)
         }
-        Came::Unwritten => {
-            os::fail(b"tsdisperse: output");
-            false
+        Came::Unwritten(error) => {
+            say_failed(rt, "output", error)?;
+            Ok(false)
         }
     }
 }
 
-// Reads once, and counts what stands at the front of the buffer.
-fn read_some(part: &mut [u8]) -> Filled
-    ensures { result.count ≤ length part.new }
-{
-    let got = libc::read(STDIN_FILENO, part);
-    Filled {
-        count: io::count(got, part),
-        failed: got < 0,
-    }
-}
-
-// Reads until a buffer is full, the input ends or a read fails.
-fn fill(input: &mut [u8]) -> Filled
-    ensures { IsPrefixLen result.count input.new }
+// Reads until a buffer is full, the input ends or a read fails, and counts what stands at the buffer's front.
+fn fill(rt: &HostRuntime, input: &mut [u8]) -> io::Result<usize>
+    ensures { IfOk result (λ n. IsPrefixLen n input.new) }
 {
     let mut count = 0;
     while count < input.len() {
-        let more = read_some(&mut input[count..]);
-        if more.count == 0 {
-            return Filled {
-                count,
-                failed: more.failed,
-            };
+        let more = rt.stdin().read(&mut input[count..])?;
+        if more == 0 {
+            return Ok(count);
         }
-        count += more.count;
+        count += more;
     }
-    Filled {
-        count,
-        failed: false,
-    }
+    Ok(count)
 }
 
 // Reads whole groups, or the input's last part, and writes what becomes of them; an empty input is a part too.
-fn turn(back: bool, first: bool, input: &mut [u8], out: &mut [u8]) -> Next {
-    let filled = fill(input);
-    if filled.failed {
-        os::fail(b"tsdisperse: input");
-        return Next::End;
-    }
-    let n = filled.count;
-    if n == 0 {
-        if !first {
-            return Next::End;
+fn turn(
+    rt: &HostRuntime,
+    back: bool,
+    first: bool,
+    input: &mut [u8],
+    out: &mut [u8],
+) -> io::Result<Next> {
+    let n = match fill(rt, input) {
+        Ok(n) => n,
+        Err(error) => {
+            say_failed(rt, "input", error)?;
+            return Ok(Next::End);
         }
+    };
+    if n == 0 && !first {
+        return Ok(Next::End);
     }
-    if !is_written(put(back, &mut input[..n], out)) {
-        return Next::End;
+    if !is_written(rt, put(rt, back, &mut input[..n], out))? {
+        return Ok(Next::End);
     }
     if n < input.len() {
-        return Next::End;
+        return Ok(Next::End);
     }
-    Next::More
+    Ok(Next::More)
 }
 
-// Goes on until the input ends; it counts its turns down from a number that no run uses up.
-fn run(back: bool, input: &mut [u8], out: &mut [u8]) {
-    let mut turns = u64::MAX;
+// Goes on until the input ends; no run uses up its turns.
+fn run(rt: &HostRuntime, back: bool, input: &mut [u8], out: &mut [u8]) -> io::Result<()> {
     let mut first = true;
-    while turns > 0 {
-        let next = turn(back, first, input, out);
-        first = false;
-        match next {
-            Next::More => {
-                turns -= 1;
-            }
-            Next::End => {
-                return;
-            }
+    for _ in 0..u64::MAX {
+        match turn(rt, back, first, input, out)? {
+            Next::More => first = false,
+            Next::End => break,
         }
     }
+    Ok(())
 }
 
-// Whether the program's one argument is --back.
-fn is_back() -> bool {
-    let mut word = [0u8; 8];
-    let n = os::arg(1, &mut word);
-    check::same(&word[..n], b"--back")
+// Whether the program's one argument is --back, or there is none; else nothing.
+fn is_back(rt: &HostRuntime) -> Option<bool> {
+    let Ok(mut words) = env::args(rt) else {
+        return None;
+    };
+    words.next();
+    let Some(word) = words.next() else {
+        return Some(false);
+    };
+    if word.as_str() == "--back" && words.next().is_none() {
+        return Some(true);
+    }
+    None
 }
 
-fn main() {
+fn main(rt: HostRuntime) -> io::Result<()> {
     let mut payload = payload_room();
     let mut packets = packets_room();
-    let words = os::arg_count();
-    if words < 2 {
-        run(false, &mut payload, &mut packets);
-        return;
+    match is_back(&rt) {
+        Some(false) => run(&rt, false, &mut payload, &mut packets),
+        Some(true) => run(&rt, true, &mut packets, &mut payload),
+        None => eprintln!(rt; "usage: tsdisperse [--back] < input > output"),
     }
-    if words == 2 {
-        if is_back() {
-            run(true, &mut packets, &mut payload);
-            return;
-        }
-    }
-    io::write_all(
-        STDERR_FILENO,
-        b"usage: tsdisperse [--back] < input > output\n",
-    );
 }

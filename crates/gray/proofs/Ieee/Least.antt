@@ -2,7 +2,7 @@
 -- one, what the code takes, and the same by pairs. Assumes nothing.
 use Prim.Native.Nat.{ℕ, zero, suc, ◌<◌, suc-le-suc}
 use native.Mathlib.Nat.{zero-lt-suc, not-suc-le-zero, le_of_suc-le-suc}
-use mathlib.Core.Path.{◌≡◌, refl, sym, ◌∙◌, subst, ap₂}
+use mathlib.Core.Path.{◌≡◌, refl, sym, ◌∙◌, subst}
 use mathlib.Core.Bool.{true, Bool, false, not, cond}
 use mathlib.Core.List.{List, [], ◌∷◌}
 use lib.ListN.{length}

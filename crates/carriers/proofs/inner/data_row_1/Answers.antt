@@ -1,0 +1,13 @@
+-- `carriers::inner::data_row_1` meets its contract: the test over the whole row, which antt computes, against the walk. Assumes nothing.
+use native.Mathlib.Omega.{arith}
+use Rattle.carriers.specs.Mode.{mode2k, continual2k, tps2k}
+use Rattle.carriers.specs.Count.{bin_of}
+use Rattle.carriers.specs.Carriers.{every_twelfth}
+use Rattle.carriers.specs.Reserved.{gaps}
+use Rattle.carriers.proofs.Made.{join}
+use Rattle.carriers.proofs.Facts.{joined, tested, facts2k, data-walked}
+use Rattle.carriers.proofs.inner.data_row_1.Goals as goal
+
+pub returns : goal.returns
+unfolding continual2k tps2k bin_of every_twelfth gaps join joined tested facts2k
+returns c = data-walked mode2k facts2k 1 (omega arith)

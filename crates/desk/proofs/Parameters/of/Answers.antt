@@ -1,0 +1,11 @@
+-- `desk::Parameters::of` meets its contract: they are those of the word's codes. Assumes nothing.
+use mathlib.Core.Path.{ap}
+use Rattle.tps.specs.declared.inner.Codes.{Codes}
+use Rattle.desk.specs.declared.Parameters.{Parameters}
+use Rattle.desk.proofs.Parameters.of.Goals as goal
+
+abbrev parameters_in : Codes → Parameters
+parameters_in k = record { constellation = k.constellation; code_rate_hp = k.rate; guard = k.guard }
+
+pub returns : goal.returns
+returns c = ap parameters_in c.codes_of-codes.ensures
