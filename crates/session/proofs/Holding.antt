@@ -161,7 +161,7 @@ module _ {m : Mode} (f : Facts m) where
     -- as the first of its frame, which is the furthest begun
     pub back_over_lem : HoldsAt m lj (suc c) (y ∷ []) xs begun s j → begun ≡ suc c → length xs ≡ SYMBOLS → length ws ≤ SYMBOLS
         → HoldsAt m lj c xs ws begun (back_over m c (take l j)) j
-    back_over_lem h last Whole-before k =
+    back_over_lem h last whole_before k =
         let cs = cells_of m xs in
         let n : length cs ≡ length xs = cells-many m xs in
         let room : journal_size m ≤ min l (length j) = omega (arith, h.size) in
@@ -169,7 +169,7 @@ module _ {m : Mode} (f : Facts m) where
         let few : length cs ≤ SYMBOLS = omega arith in
         let b : behind_in c begun ≡ 1 = behind-some c begun (omega arith) in
         record {
-          session = over_is_whole m c cs (take l j) (placed f xs) (n ∙ Whole-before) (lent_frame m c (length cs) l j few room ∙ rw n e) ∙ rw b;
+          session = over_is_whole m c cs (take l j) (placed f xs) (n ∙ whole_before) (lent_frame m c (length cs) l j few room ∙ rw n e) ∙ rw b;
           few = omega arith;
           early = omega (arith, h.early);
           low = omega arith;

@@ -7,7 +7,7 @@ ghost use Rattle.std.specs.Prelude.{◌≡◌, length};
 use deskreport::inner::Reader;
 use ground::Counted;
 use std::io;
-use std::io::{Print, Read};
+use std::io::{ErrorKind, Print, Read};
 
 // The reader after a part of the input, and whether there is more to read.
 #[derive(Clone, Copy)]
@@ -45,12 +45,15 @@ fn say_failed(rt: &HostRuntime, what: &str, error: io::Error) -> io::Result<()> 
     eprintln!(rt; "tpsdesk: {what}: {words}")
 }
 
-// Writes the text that a call left at the front of its output, and answers whether it was written.
+// Writes the text that a call left at the front of its output, and answers whether it was written; where nobody reads
+// the output any more, nothing is said.
 fn write_text(rt: &HostRuntime, answer: Counted, text: &[u8]) -> io::Result<bool> {
     if let Counted::Count(n) = answer {
         if n <= text.len() {
             if let Err(error) = rt.stdout().write_all(&text[..n]) {
-                say_failed(rt, "output", error)?;
+                if error.kind() != ErrorKind::BrokenPipe {
+                    say_failed(rt, "output", error)?;
+                }
                 return Ok(false);
             }
             return Ok(true);

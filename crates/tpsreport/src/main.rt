@@ -7,8 +7,9 @@ ghost use Rattle.std.specs.Prelude.{◌≡◌, length};
 use bch::Decoder;
 use ground::Counted;
 use report::Reader;
-use std::io::{Print, Read};
-use std::{env, io};
+use std::env::{Env, FillError};
+use std::io;
+use std::io::{ErrorKind, Print, Read};
 
 // What the arguments ask for.
 #[derive(Clone, Copy)]
@@ -53,12 +54,15 @@ fn say_failed(rt: &HostRuntime, what: &str, error: io::Error) -> io::Result<()> 
     eprintln!(rt; "tpsreport: {what}: {words}")
 }
 
-// Writes the text that a call left at the front of its output, and answers whether it was written.
+// Writes the text that a call left at the front of its output, and answers whether it was written; where nobody reads
+// the output any more, nothing is said.
 fn write_text(rt: &HostRuntime, answer: Counted, text: &[u8]) -> io::Result<bool> {
     if let Counted::Count(n) = answer {
         if n <= text.len() {
             if let Err(error) = rt.stdout().write_all(&text[..n]) {
-                say_failed(rt, "output", error)?;
+                if error.kind() != ErrorKind::BrokenPipe {
+                    say_failed(rt, "output", error)?;
+                }
                 return Ok(false);
             }
             return Ok(true);
@@ -116,16 +120,24 @@ fn run(rt: &HostRuntime, decoder: Decoder, part: &mut [u8], text: &mut [u8]) -> 
     Ok(())
 }
 
+// Whether there is no argument at a place.
+fn is_absent(rt: &HostRuntime, place: usize) -> bool {
+    match rt.arg(place, &mut []) {
+        Err(FillError::NotPresent) => true,
+        _ => false,
+    }
+}
+
 // What the arguments ask for: the fast decoder where there is none, the slow one where --slow is the only one.
 fn arguments(rt: &HostRuntime) -> Asked {
-    let Ok(mut words) = env::args(rt) else {
+    if is_absent(rt, 1) {
+        return Asked::Report(Decoder::Fast);
+    }
+    let mut word = [0u8; 6];
+    let Ok(n) = rt.arg(1, &mut word) else {
         return Asked::Unknown;
     };
-    words.next();
-    let Some(word) = words.next() else {
-        return Asked::Report(Decoder::Fast);
-    };
-    if word.as_str() == "--slow" && words.next().is_none() {
+    if word[..n] == b"--slow"[..] && is_absent(rt, 2) {
         return Asked::Report(Decoder::Slow);
     }
     Asked::Unknown

@@ -6,8 +6,9 @@ ghost use Rattle.std.specs.Prelude.{◌≡◌, length, IfOk};
 ghost use Rattle.io.specs.Counts.{IsPrefixLen};
 
 use ground::Counted;
-use std::io::{Print, Read};
-use std::{env, io};
+use std::env::{Env, FillError};
+use std::io;
+use std::io::{ErrorKind, Print, Read};
 
 // What a part of the input came to: written, refused by the library, or not written.
 #[derive(Clone, Copy)]
@@ -86,7 +87,8 @@ fn put(rt: &HostRuntime, back: bool, part: &mut [u8], out: &mut [u8]) -> Came {
     send(rt, part, out)
 }
 
-// Says on standard error why a part wasn't written, and answers whether it was.
+// Says on standard error why a part wasn't written, and answers whether it was; where nobody reads the output any more,
+// nothing is said.
 fn is_written(rt: &HostRuntime, came: Came) -> io::Result<bool> {
     match came {
         Came::Written => Ok(true),
@@ -95,7 +97,9 @@ fn is_written(rt: &HostRuntime, came: Came) -> io::Result<bool> {
             Ok(false)
         }
         Came::Unwritten(error) => {
-            say_failed(rt, "output", error)?;
+            if error.kind() != ErrorKind::BrokenPipe {
+                say_failed(rt, "output", error)?;
+            }
             Ok(false)
         }
     }
@@ -155,16 +159,24 @@ fn run(rt: &HostRuntime, back: bool, input: &mut [u8], out: &mut [u8]) -> io::Re
     Ok(())
 }
 
+// Whether there is no argument at a place.
+fn is_absent(rt: &HostRuntime, place: usize) -> bool {
+    match rt.arg(place, &mut []) {
+        Err(FillError::NotPresent) => true,
+        _ => false,
+    }
+}
+
 // Whether the program's one argument is --back, or there is none; else nothing.
 fn is_back(rt: &HostRuntime) -> Option<bool> {
-    let Ok(mut words) = env::args(rt) else {
+    if is_absent(rt, 1) {
+        return Some(false);
+    }
+    let mut word = [0u8; 8];
+    let Ok(n) = rt.arg(1, &mut word) else {
         return None;
     };
-    words.next();
-    let Some(word) = words.next() else {
-        return Some(false);
-    };
-    if word.as_str() == "--back" && words.next().is_none() {
+    if word[..n] == b"--back"[..] && is_absent(rt, 2) {
         return Some(true);
     }
     None
