@@ -1,9 +1,9 @@
 """second.py OUT: compiles the library's own Rattle source with rustc, as a dynamic library with the same C interface,
 OUT/libsaltkernel.so.
 
-What Rattle has beyond Rust is taken away: contracts and ghost lines. Structs and enums are given Copy, the kit's
-calls go to kit.rs, and each function for C becomes a plain one and a covering one that takes a slice as a pointer and
-a length. Overflow is checked, and a panic ends the process."""
+What Rattle has beyond Rust is taken away: contracts, ghost lines and tactics. The kit's calls go to kit.rs, and each
+function for C becomes a plain one and a covering one that takes a slice as a pointer and a length. Overflow is checked,
+and a panic ends the process."""
 import os
 import pathlib
 import re
@@ -17,9 +17,9 @@ from rattle import root  # noqa: E402
 
 TOP = "saltkernel"
 GHOST = re.compile(r"^ghost use .*\n", flags=re.M)
-TYPE = re.compile(r"^(pub(\(crate\))? )?(struct|enum) ", flags=re.M)
+TACTIC = re.compile(r"^ *#!?\[tactic\(.*\)\]\n", flags=re.M)
 KIT = re.compile(r"\b(std::num|io)::(?=\w+\()")
-FOR_C = re.compile(r'#\[no_mangle\]\npub extern "C" (fn (\w+)\(([^)]*)\)( -> \w+)?)')
+FOR_C = re.compile(r'#\[unsafe\(no_mangle\)\]\npub extern "C" (fn (\w+)\(([^)]*)\)( -> \w+)?)')
 LENDING = """
 fn lent<'a, T>(items: *const T, length: usize) -> &'a [T] {
     if length == 0 { &[] } else { unsafe { std::slice::from_raw_parts(items, length) } }
@@ -76,7 +76,7 @@ def as_rust(text):
     """A Rattle file as Rust."""
     for function in reversed(list(rattle.read(text))):
         text = text[: function.begin] + text[function.begin :].replace(function.contract, "", 1)
-    text = TYPE.sub(r"#[derive(Clone, Copy)]\n\g<0>", GHOST.sub("", text))
+    text = TACTIC.sub("", GHOST.sub("", text))
     return FOR_C.sub(covering, KIT.sub("kit::", text))
 
 

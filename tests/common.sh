@@ -81,16 +81,18 @@ is_fresh() {
     [ -f "$1" ] && [ -z "$(find "$root/crates.txt" "$root"/crates/*/{src,specs,proofs} "${@:2}" -newer "$1" -print -quit)" ]
 }
 
-# Has rt make a file that isn't fresh: made FILE WORD..
+# Has rt make a file that isn't fresh, out of a crate's folder: made FILE CRATE WORD.., which leaves it in out/ there
 made() {
-    local file=$1 log began
-    shift
+    local file=$1 crate=$root/crates/$2 log began
+    shift 2
     is_fresh "$file" && return 0
     command -v rt >/dev/null || give_up "there is no rt to make $file with"
     log=$(mktemp)
     began=$(date +@%s.%N)
-    (cd "$root" && rt "$@") >"$log" 2>&1 </dev/null || give_up "rt $* did not succeed" "$log"
+    (cd "$crate" && rt "$@") >"$log" 2>&1 </dev/null || give_up "rt $* did not succeed in $crate" "$log"
     rm -f "$log"
+    mkdir -p "$(dirname "$file")"
+    cp "$crate/out/$(basename "$file")" "$file" || give_up "rt $* left no $(basename "$file") in $crate/out"
     touch -d "$began" "$file"
 }
 
@@ -101,14 +103,15 @@ need_archive() {
     if [ -n "${SALTKERNEL_LIB_DIR:-}" ]; then
         [ -f "$archive" ] || give_up "SALTKERNEL_LIB_DIR names no folder with libsaltkernel.a"
     else
-        made "$archive" staticlib saltkernel
+        made "$archive" saltkernel lib
     fi
 }
 
-# Has a program proved and built, to be run as "${emulator[@]}" PROGRAM: need_program NAME
+# Has a program proved and built, to be run as "${emulator[@]}" PROGRAM: need_program NAME. What rt run makes it then
+# runs too, on an empty input.
 need_program() {
     need_emulator
-    made "$root/target/bin/$1" check "$1"
+    made "$root/target/bin/$1" "$1" run
 }
 
 # Compiles C files to target/tests/NAME and links the archive: compile_c NAME FILE..

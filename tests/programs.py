@@ -2,8 +2,8 @@
 
 In crates/NAME/wrong-programs.txt a wrong program is a line `NAME of FUNCTION: what it does wrong`, or
 `NAME of FUNCTION in OTHER: ..` where it changes another function of the crate, and pairs of lines: behind `- ` a text
-that stands once in the changed function, and behind `+ ` what stands there instead. Those that document 01 names are
-must-fail edits of the toolchain (crates/NAME/must-fail/NAME.edit), whose first line has a `#` for the name."""
+that stands once in the body of the changed function, and behind `+ ` what stands there instead. Those that document 01
+names are must-fail edits of the toolchain (crates/NAME/must-fail/NAME.edit), with a `#` for the name in the first line."""
 import dataclasses
 import re
 
@@ -15,15 +15,15 @@ PAIR = re.compile(r"^(?:- |old: )(.*)\n(?:\+ |new: )(.*)$", flags=re.M)
 
 @dataclasses.dataclass
 class Program:
-    """A wrong program: its name, the function that it is one of, what it does wrong, the function that it changes, its
-    edits as (file, place, old, new), and whether it is a must-fail edit."""
+    """A wrong program: its name, the function that it is one of, what it does wrong, the function that it changes with
+    its lines, and its edits as (file, place, old, new)."""
 
     name: str
     of: str
     wrong: str
     changed: str
+    lines: range
     edits: list
-    must_fail: bool
 
 
 def applied(path, text, edits):
@@ -48,10 +48,11 @@ def read(crate, known, texts, written, name=None):
     title, edits = f"{crate} {name or head['name']}", []
     place = only(named(known, head["place"] or head["of"]), f"{title}: functions to change")
     for old, new in pairs:
-        at = [found.start() for found in re.finditer(re.escape(old), texts[place.file][place.begin : place.end])]
-        edits.append((place.file, place.begin + only(at, f"{title}: places of {old}"), old, new))
+        at = [found.start() for found in re.finditer(re.escape(old), texts[place.file][place.body : place.end])]
+        edits.append((place.file, place.body + only(at, f"{title}: places of {old}"), old, new))
     of = only(named(known, head["of"]), f"{title}: functions {head['of']}").path
-    return Program(name or head["name"], of, head["wrong"], f"{crate}::{place.path}", edits, bool(name))
+    lines = range(*(texts[place.file].count("\n", 0, at) + more for at, more in ((place.begin, 1), (place.end, 2))))
+    return Program(name or head["name"], of, head["wrong"], f"{crate}::{place.path}", lines, edits)
 
 
 def programs(crate):

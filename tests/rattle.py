@@ -13,12 +13,13 @@ QUIET = re.compile(r"//.*|\"[^\"\n]*\"|'.'")
 @dataclasses.dataclass
 class Function:
     """A function: its path behind the crate's name, its file, whether it is public (no function of a module `inner`
-    is), where it begins and ends there, what it takes and answers, and its contract."""
+    is), where it, its body and its end begin there, what it takes and answers, and its contract."""
 
     path: str
     file: str
     public: bool
     begin: int
+    body: int
     end: int
     head: str
     contract: str
@@ -27,7 +28,7 @@ class Function:
 def crates():
     """The crates in their order, each with those that it stands on."""
     lines = [line.split(":") for line in (root / "crates.txt").read_text().splitlines() if ":" in line]
-    listed = {name: below.split() for name, below in lines}
+    listed = {name.split()[0]: below.split() for name, below in lines}
     return {name: [one for one in below if one in listed] for name, below in listed.items()}
 
 
@@ -59,7 +60,8 @@ def read(text, file="", module=""):
             at = closed(code, clause.end())
         public = bool(mark[2]) and not mark[3] and not module.startswith("inner::")
         end = closed(code, code.index("{", at))
-        yield Function(module + owner + mark["name"], file, public, mark.start(), end, text[mark.start() : promised], text[promised:at])
+        head = text[mark.start() : promised]
+        yield Function(module + owner + mark["name"], file, public, mark.start(), at, end, head, text[promised:at])
 
 
 def functions(crate):

@@ -45,8 +45,8 @@
 //!
 //! # The archive
 //!
-//! `build.rs` takes `libsaltkernel.a` from the folder that `SALTKERNEL_LIB_DIR` names, else the repository's, which `rt staticlib saltkernel` proves and
-//! writes where it is missing or stale. With an archive whose structs or functions are declared otherwise than here nothing links.
+//! `build.rs` takes `libsaltkernel.a` from the folder that `SALTKERNEL_LIB_DIR` names, else the repository's, which `tests/archive` has proved and
+//! written where it is missing or stale. With an archive whose structs or functions are declared otherwise than here nothing links.
 //!
 //! [`Active`]: waveform::dvb_t::Active
 //! [`Signed`]: waveform::dvb_t::Signed

@@ -1,6 +1,6 @@
 // Saltkernel: the DVB-T 2K waveform layer of a bench analyser. C99 and C++.
 //
-// Link with libsaltkernel.a (`rt staticlib saltkernel` writes target/staticlib/libsaltkernel.a, for x86-64).
+// Link with libsaltkernel.a (`tests/archive` has target/staticlib/libsaltkernel.a written, for x86-64).
 // `include/generate` makes include/saltkernel.h and rust/src/sys.rs from crates/saltkernel: change them there.
 //
 // A slice is two arguments, a pointer and a length in items. The pointer isn't null, even where the length is 0, and
