@@ -1,5 +1,6 @@
 -- Document 01, 'TPS': the codeword within distance two of the bits, as a function.
-use Rattle.std.specs.Prelude.{Bool, true, false, ◌&&◌, cond, List, [], ◌∷◌, ◌++◌, map, ℕ, zero, suc, ◌-◌, eqb, length, take}
+use Rattle.std.specs.Prelude.{Bool, true, false, ◌&&◌, cond, List, [], ◌∷◌, ◌++◌, map, ℕ, zero, suc, ◌-◌, eqb}
+use Rattle.std.specs.Prelude.{length, take}
 use Rattle.ground.specs.Bits.{are_bits}
 use Rattle.bch.specs.Code.{remainder_of, places}
 

@@ -1,5 +1,6 @@
 -- What the helpers' contracts say. No public promise rests on these.
-use Rattle.std.specs.Prelude.{◌≡◌, List, [], ◌∷◌, ℕ, zero, suc, ◌+◌, ◌*◌, ◌/◌, ◌%◌, ◌^◌, ◌≤◌, length, take}
+use Rattle.std.specs.Prelude.{◌≡◌, List, [], ◌∷◌, ℕ, zero, suc, ◌+◌, ◌*◌, ◌/◌, ◌%◌, ◌^◌, ◌≤◌}
+use Rattle.std.specs.Prelude.{length, take}
 use Rattle.std.specs.Int.Bits.{bit_xor}
 use Rattle.dispersal.specs.Register.{start, steps, outputs}
 

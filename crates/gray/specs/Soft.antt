@@ -1,6 +1,7 @@
 -- Document 01, 'Gray mapping': the soft value of a bit is (least squared distance to a level whose bit is 1) minus
 -- (the same for 0), in f32, one rounding an operation. Another group size is LENGTH.
-use Rattle.std.specs.Prelude.{ℕ, zero, suc, ◌/◌, ◌%◌, ◌^◌, ◌<◌, Bool, true, false, not, ◌&&◌, cond, ◌≡◌, List, [], ◌∷◌, map, ℤ, T, eqb, Float, length}
+use Rattle.std.specs.Prelude.{ℕ, zero, suc, ◌/◌, ◌%◌, ◌^◌, ◌<◌, Bool, true, false, not, ◌&&◌, cond, ◌≡◌, List}
+use Rattle.std.specs.Prelude.{[], ◌∷◌, map, ℤ, T, eqb, Float, length}
 use Rattle.std.specs.Float.{inf, binary32}
 use Rattle.std.specs.Float.Ieee.{sub, mul, lt}
 use Rattle.ground.specs.declared.Cell.{Cell}

@@ -1,7 +1,9 @@
 -- EN 300 744, 4.3.4.2: the permutation H of the symbol interleaver. A shift register R' runs; the wires carry its bits
 -- to the bits of R; an address is R and, in odd steps, one bit above it; the addresses that are places make up H, in
 -- their order.
-use Rattle.std.specs.Prelude.{◌≡◌, cond, List, [], ◌∷◌, ℕ, zero, suc, ◌+◌, ◌-◌, ◌*◌, ◌/◌, ◌%◌, ◌^◌, ◌<◌, ltb, length, get_or}
+use Rattle.std.specs.Prelude.{◌≡◌, cond, List, [], ◌∷◌, ℕ, zero, suc, ◌+◌, ◌-◌, ◌*◌, ◌/◌, ◌%◌, ◌^◌}
+use Rattle.std.specs.Prelude.{◌<◌, ltb}
+use Rattle.std.specs.Prelude.{length, get_or}
 use Rattle.std.specs.Int.Bits.{bit_xor}
 
 -- what a transmission mode fixes

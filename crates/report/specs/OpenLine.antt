@@ -1,7 +1,8 @@
 -- Document 01, 'Report program': the line that is open in an input that comes in parts of any size. Its first 17
 -- characters are held, and its characters are counted up to 18. That the lines that end in the parts are answered as
 -- those of the whole input is the theorem `parts-answers`.
-use Rattle.std.specs.Prelude.{ℕ, ◌+◌, Bool, true, false, cond, List, [], ◌∷◌, ◌++◌, drop, replicate, ◌==◌, nat_lt, slice_set}
+use Rattle.std.specs.Prelude.{ℕ, ◌+◌, Bool, true, false, cond, List, [], ◌∷◌, ◌++◌, drop, replicate, ◌==◌}
+use Rattle.std.specs.Prelude.{nat_lt, slice_set}
 use Rattle.ground.specs.Refusal.{BAD_LINE}
 use Rattle.tps.specs.declared.word.Unpacked.{Unpacked}
 use Rattle.tps.specs.declared.word.Unpacked.TheVariants.{Refused}

@@ -1,6 +1,7 @@
 -- Document 01, 'Report program': a received word is a line of 17 hexadecimal digits, the first digit's high bit s0.
 -- Any other line is BAD LINE, before any other refusal.
-use Rattle.std.specs.Prelude.{ℕ, ◌+◌, ◌-◌, Bool, true, cond, ◌&&◌, ◌||◌, List, [], ◌∷◌, ◌++◌, length, ◌==◌, nat_le}
+use Rattle.std.specs.Prelude.{ℕ, ◌+◌, ◌-◌, Bool, true, cond, ◌&&◌, ◌||◌, List, [], ◌∷◌, ◌++◌, length}
+use Rattle.std.specs.Prelude.{◌==◌, nat_le}
 use Prim.Native.Char.{Char, code}
 use Rattle.ground.specs.Refusal.{BAD_LINE}
 use Rattle.ground.specs.Digits.{digits_of}

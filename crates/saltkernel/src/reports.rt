@@ -6,7 +6,8 @@
 ghost use Rattle.std.specs.Prelude.{◌≡◌};
 ghost use Rattle.report.specs.Reading.{read_answer};
 ghost use Rattle.report.specs.Stream.{fresh};
-ghost use Rattle.report.specs.Calls.{heading_answer, heading_leaves, feed_answer, feed_leaves, close_answer, close_leaves};
+ghost use Rattle.report.specs.Calls.{heading_answer, heading_leaves, feed_answer, feed_leaves, close_answer};
+ghost use Rattle.report.specs.Calls.{close_leaves};
 ghost use Rattle.saltkernel.specs.Numbers.{Says};
 ghost use Rattle.saltkernel.specs.Words.{SaysUnpacked};
 ghost use Rattle.saltkernel.specs.Reports.{answer_in, reserved_in, line_answer, line_leaves, SaysReaderFed};

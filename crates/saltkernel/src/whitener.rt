@@ -1,7 +1,8 @@
 // The whitener of energy dispersal (4.3.1).
 ghost use Rattle.std.specs.Prelude.{◌≡◌};
 ghost use Rattle.dispersal.specs.Register.{start, steps};
-ghost use Rattle.dispersal.specs.Whitener.{register_of, feed_in_place_answer, feed_in_place_leaves, feed_answer, feed_leaves};
+ghost use Rattle.dispersal.specs.Whitener.{register_of, feed_in_place_answer, feed_in_place_leaves};
+ghost use Rattle.dispersal.specs.Whitener.{feed_answer, feed_leaves};
 ghost use Rattle.saltkernel.specs.Numbers.{whitener_of, SaysWhitened};
 
 use super::{SaltCounted, numbers_of};

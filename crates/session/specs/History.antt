@@ -1,6 +1,7 @@
 -- Document 01, demand 3, with document 02's E8: what any run of feeds, step backs and resets leaves, refused ones among
 -- them, said over the promises alone. Lists of operations and of symbols are newest first.
-use Rattle.std.specs.Prelude.{◌≡◌, Bool, cond, List, [], ◌∷◌, ◌++◌, map, ℕ, suc, ◌*◌, ◌%◌, min, max, ltb, leb, Float, length, take, drop}
+use Rattle.std.specs.Prelude.{◌≡◌, Bool, cond, List, [], ◌∷◌, ◌++◌, map, ℕ, suc, ◌*◌, ◌%◌, min, max, ltb, leb}
+use Rattle.std.specs.Prelude.{Float, length, take, drop}
 use Rattle.ground.specs.Answer.{kept}
 use Rattle.ground.specs.declared.Cell.{Cell}
 use Rattle.carriers.specs.Mode.{Mode}
@@ -116,7 +117,8 @@ module _ (m : Mode) where
 
   -- what stands after an operation, where st stood and the journal has lj f32
   unfoldable pub after : ℕ → Op → Standing → Standing
-  after lj (feed symbol room lent) st = kept (feed_no_after (length symbol) room (min lent lj) st) (one_more symbol st) st
+  after lj (feed symbol room lent) st =
+      kept (feed_no_after (length symbol) room (min lent lj) st) (one_more symbol st) st
   after lj (back lent) st = kept (step_back_no_after (min lent lj) st) (one_fewer st) st
   after lj reset st = none
 

@@ -2,7 +2,9 @@
 -- data and the lent journal. With n symbols standing in the current frame the phase is n mod 4. A count above 68 is
 -- treated as 68, a frame count above 1,000,000 as 1,000,000, a held bit above 1 as 1, and bits not standing read 0;
 -- any `behind` but 0 says that a later frame was begun.
-use Rattle.std.specs.Prelude.{◌≡◌, Bool, cond, not, ◌&&◌, List, [], ◌∷◌, ℕ, zero, suc, ◌+◌, ◌-◌, ◌%◌, min, eqb, ltb, leb, Float, length}
+use Rattle.std.specs.Prelude.{◌≡◌, Bool, cond, not, ◌&&◌, List, [], ◌∷◌, ℕ, zero, suc, ◌+◌, ◌-◌, ◌%◌, min}
+use Rattle.std.specs.Prelude.{eqb}
+use Rattle.std.specs.Prelude.{ltb, leb, Float, length}
 use Rattle.ground.specs.Refusal.{ACCEPTED, LENGTH, OUTPUT_SHORT, FULL, EMPTY, ◌gives◌, first_of}
 use Rattle.ground.specs.Answer.{kept}
 use Rattle.carriers.specs.Mode.{Mode, symbol_size, data_size}

@@ -81,4 +81,5 @@ near_answer none bits = Refused NO_WORD
 
 -- the answer to the bits s0..s67
 unfoldable pub unpack_answer : List ℕ → Unpacked
-unpack_answer bits = kept (unpack_no bits) (near_answer (near_of (drop 1 bits)) (drop 1 bits)) (Refused (unpack_no bits))
+unpack_answer bits =
+    kept (unpack_no bits) (near_answer (near_of (drop 1 bits)) (drop 1 bits)) (Refused (unpack_no bits))

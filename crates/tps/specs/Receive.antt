@@ -1,7 +1,8 @@
 -- Document 01, 'TPS', receiving; EN 300 744, 4.6.3: symbol 0 gives bit 0; later the bit is 1 when the sum over the TPS
 -- carriers of re*prev.re - im*(-prev.im) is below zero, summed in order from +0.0 in f32. A NaN sum gives 0. A 69th
 -- symbol is FULL.
-use Rattle.std.specs.Prelude.{◌≡◌, cond, List, [], ◌∷◌, ◌++◌, map, ℕ, zero, suc, ◌+◌, ◌-◌, min, eqb, ltb, leb, Float, get_or, take, drop, set, replicate}
+use Rattle.std.specs.Prelude.{◌≡◌, cond, List, [], ◌∷◌, ◌++◌, map, ℕ, zero, suc, ◌+◌, ◌-◌, min, eqb, ltb, leb}
+use Rattle.std.specs.Prelude.{Float, get_or, take, drop, set, replicate}
 use Rattle.std.specs.Float.{nan, binary32}
 use Rattle.std.specs.Float.Ieee.{add, sub, mul, neg, lt}
 use Rattle.ground.specs.Refusal.{ACCEPTED, LENGTH, FULL, INCOMPLETE, ◌gives◌, first_of}
