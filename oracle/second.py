@@ -16,7 +16,8 @@ from programs import applied  # noqa: E402
 from rattle import root  # noqa: E402
 
 TOP = "saltkernel"
-GHOST = re.compile(r"^ghost use .*\n", flags=re.M)
+GHOST = re.compile(r"^ *ghost .*?(?:;|\},)\n", flags=re.M | re.S)
+DROP = re.compile(r"^#\[derive\(Drop\)\]\n", flags=re.M)
 TACTIC = re.compile(r"^ *#!?\[tactic\(.*\)\]\n", flags=re.M)
 KIT = re.compile(r"\b(std::num|io)::(?=\w+\()")
 FOR_C = re.compile(r'#\[unsafe\(no_mangle\)\]\npub extern "C" (fn (\w+)\(([^)]*)\)( -> \w+)?)')
@@ -76,7 +77,7 @@ def as_rust(text):
     """A Rattle file as Rust."""
     for function in reversed(list(rattle.read(text))):
         text = text[: function.begin] + text[function.begin :].replace(function.contract, "", 1)
-    text = TACTIC.sub("", GHOST.sub("", text))
+    text = DROP.sub("", TACTIC.sub("", GHOST.sub("", text)))
     return FOR_C.sub(covering, KIT.sub("kit::", text))
 
 

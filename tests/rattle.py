@@ -4,7 +4,8 @@ import pathlib
 import re
 
 root = pathlib.Path(__file__).resolve().parent.parent
-MARK = re.compile(r'^impl (\w+)|^\}|^ *(pub(\(\w+\))? )?(?:extern "C" )?fn (?P<name>\w+)', flags=re.M)
+IMPL = r"^impl(?:<[^{]*?>)? (?:(?P<law>\w+)(?:<(?P<at>\w+)[^{]*?>)? for )?(?P<owner>\w+)"
+MARK = re.compile(IMPL + r'|^\}|^ *(?P<open>pub(?P<within>\(\w+\))? )?(?:extern "C" )?fn (?P<name>\w+)', flags=re.M)
 CLAUSE = re.compile(r"\s*\b(?:requires|ensures)\b[^{]*")
 BODY = re.compile(r"\s*\{")
 QUIET = re.compile(r"//.*|\"[^\"\n]*\"|'.'")
@@ -52,13 +53,14 @@ def read(text, file="", module=""):
     owner, code = "", QUIET.sub(lambda found: " " * len(found[0]), text)
     for mark in MARK.finditer(text):
         if not mark["name"]:
-            owner = f"{mark[1]}::" if mark[1] else ""
+            owner = "".join(part[0].upper() + part[1:] for part in mark.group("owner", "law", "at") if part)
+            owner += "::" if owner else ""
             continue
         taken = closed(code, code.index("(", mark.end()))
         promised = at = min(found.start() for found in (CLAUSE.search(code, taken), BODY.search(code, taken)) if found)
         while clause := CLAUSE.match(code, at):
             at = closed(code, clause.end())
-        public = bool(mark[2]) and not mark[3] and not module.startswith("inner::")
+        public = bool(mark["open"]) and not mark["within"] and not module.startswith("inner::")
         end = closed(code, code.index("{", at))
         head = text[mark.start() : promised]
         yield Function(module + owner + mark["name"], file, public, mark.start(), at, end, head, text[promised:at])

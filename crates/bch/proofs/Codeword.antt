@@ -6,7 +6,7 @@ use Prim.Native.Nat.{ℕ, ◌-◌, ◌^◌, ◌<◌, ◌≤◌}
 use native.Mathlib.Omega.{arith}
 use lib.Bits.{bit_xor, xor_self}
 use lib.ListN.{length, replicate, length-append, take, drop, length-drop, drop_of_length-le, take-append-drop}
-use lib.Seq.{take_at, drop_at, take_all, length-take-le}
+use lib.Seq.{take_at, drop_at, length-take-le}
 use borrow.Rule.Slice.PartMut.{put_mid}
 use Rattle.ground.specs.Bits.{Bits}
 use Rattle.ground.specs.Digits.{value_of, digits_of}
@@ -78,10 +78,7 @@ codeword-encode w h =
 
 -- ---- the codeword as it is written
 
-module _ (info o b d : List ℕ) (p : ℕ) (hi : length info ≡ 53) (ho : length o ≡ 67) (hb : b ≡ take 53 info) where
-  copy_is : b ≡ info
-  copy_is = hb ∙ take_all 53 info (omega arith)
-
+module _ (info o b d : List ℕ) (p : ℕ) (hi : length info ≡ 53) (ho : length o ≡ 67) (copy_is : b ≡ info) where
   behind : length (b ++ drop 53 o) - 53 ≡ 14
   behind = let e = ap length copy_is in simp (length-append, length-drop) (omega arith)
 

@@ -3,8 +3,7 @@
 use mathlib.Core.Path.{◌≡◌}
 use mathlib.Core.List.{List}
 use Prim.Native.Nat.{ℕ}
-use Rattle.bch.specs.declared.Decoded.{Decoded}
-use Rattle.bch.specs.Promise.{Decodes}
+use Rattle.bch.specs.Promise.{Decoded, Decodes}
 use Rattle.bch.proofs.Determined.{decode_determined}
 
 pub slow_is_fast : (w o a b : List ℕ) (fast slow : Decoded) → Decodes w o fast a → Decodes w o slow b → (fast ≡ slow) × (a ≡ b)

@@ -5,11 +5,13 @@ use mathlib.Core.Path.{◌≡◌, refl, sym, ap, ◌∙◌, subst}
 use mathlib.Core.Logic.{inl, inr}
 use mathlib.Core.Bool.{Bool, true, false, not}
 use mathlib.Core.List.{List, [], ◌∷◌}
-use Prim.Native.Nat.{ℕ, zero, ◌≤◌}
+use Prim.Native.Nat.{ℕ, ◌≤◌}
 use lib.Dec.{eqb, ltb}
 use lib.ListN.{length, take}
 use lib.Seq.{take_at}
 use borrow.Author.Tests.{eqb-true}
+use Rattle.std.specs.Prelude.{Option, Some, None}
+use Rattle.ground.specs.declared.Refusal.{Refusal}
 use Rattle.ground.specs.Refusal.{ACCEPTED, LENGTH, NOT_A_BIT, OUTPUT_SHORT, NO_WORD, ◌gives◌, first_of}
 use Rattle.ground.specs.Answer.{kept, written}
 use Rattle.ground.specs.Bits.{Bits, are_bits}
@@ -17,15 +19,14 @@ use Rattle.ground.specs.Digits.{digits_of}
 use Rattle.ground.proofs.Answers.{OneResult, one-result}
 use Rattle.ground.proofs.Bits.{bits_of_lem, are-bits}
 use Rattle.bch.specs.Code.{parity, encode, Codeword, places, distance, Lone}
-use Rattle.bch.specs.NearCodeword.{Near, near_of, is_none, information_in, places_to, found, none}
-use Rattle.bch.specs.declared.Decoded.{Decoded}
-use Rattle.bch.specs.Promise.{encode_answer, encode_leaves, decoded, Corrected, Refuses, Answers, Decodes, decode_answer, decode_leaves}
+use Rattle.bch.specs.NearCodeword.{Near, near_of, is_none, information_in, places_to}
+use Rattle.bch.specs.Promise.{encode_answer, encode_leaves, Decoded, decoded, Corrected, Refuses, Answers, Decodes, decode_answer, decode_leaves}
 use Rattle.bch.proofs.Distance.{unique}
 use Rattle.bch.proofs.Codeword.{encode-codeword}
 use Rattle.bch.proofs.NearCodeword.{near-found, near_none}
 use Rattle.bch.proofs.Answer.{accepted}
 
-refused-same : (k₀ : ℕ) (o a b : List ℕ) (r q : Decoded) → Refuses k₀ o r a → Refuses k₀ o q b → (r ≡ q) × (a ≡ b)
+refused-same : (k₀ : Option Refusal) (o a b : List ℕ) (r q : Decoded) → Refuses k₀ o r a → Refuses k₀ o q b → (r ≡ q) × (a ≡ b)
 refused-same k₀ o a b r q h k = (h.answers ∙ sym k.answers, h.leaves ∙ sym k.leaves)
 
 module _ (w o a b : List ℕ) (r q : Decoded) (hb : Bits w) (hl : length w ≡ 67) where
@@ -36,14 +37,14 @@ module _ (w o a b : List ℕ) (r q : Decoded) (hb : Bits w) (hl : length w ≡ 6
         h.leaves ∙ ap (λ (c : List ℕ). written (take 53 c) o) e ∙ sym k.leaves,
       )
 
-  answers-same : Answers zero w o r a → Answers zero w o q b → (r ≡ q) × (a ≡ b)
+  answers-same : Answers ACCEPTED w o r a → Answers ACCEPTED w o q b → (r ≡ q) × (a ≡ b)
   answers-same (inl h) (inl k) = corrected-same h k
   answers-same (inl h) (inr k) = absurd (k.0 h.word h.codeword h.near)
   answers-same (inr h) (inl k) = absurd (h.0 k.word k.codeword k.near)
   answers-same (inr h) (inr k) = refused-same NO_WORD o a b r q h.1 k.1
 
--- the number of a call by the outcomes of its tests
-abbrev number_by : Bool → Bool → Bool → ℕ
+-- the refusal of a call by the outcomes of its tests
+abbrev number_by : Bool → Bool → Bool → Option Refusal
 number_by x y z = first_of (not x gives LENGTH ∷ not y gives NOT_A_BIT ∷ z gives OUTPUT_SHORT ∷ [])
 
 determined_by_tests : (w o a b : List ℕ) (r q : Decoded) (x y z : Bool) → eqb (length w) 67 ≡ x → are_bits w ≡ y
@@ -63,10 +64,10 @@ encode_determined info o = one-result (encode_answer info o) (encode_leaves info
 -- ---- what the promise says of 67 bits with room for the information
 
 module _ (w o a : List ℕ) (r : Decoded) (hb : Bits w) (hl : length w ≡ 67) (room : 53 ≤ length o) (h : Decodes w o r a) where
-  answered : Answers zero w o r a
-  answered = subst (λ (k : ℕ). Answers k w o r a) (accepted 67 53 w o hl (are-bits w hb) room) h
+  answered : Answers ACCEPTED w o r a
+  answered = subst (λ (k : Option Refusal). Answers k w o r a) (accepted 67 53 w o hl (are-bits w hb) room) h
 
-  near-answered : (c : List ℕ) → Codeword c → distance c w ≤ 2 → Answers zero w o r a → (r ≡ decoded ACCEPTED (places 0 c w)) × (a ≡ written (take 53 c) o)
+  near-answered : (c : List ℕ) → Codeword c → distance c w ≤ 2 → Answers ACCEPTED w o r a → (r ≡ decoded ACCEPTED (places 0 c w)) × (a ≡ written (take 53 c) o)
   near-answered c hc hd (inl k) =
       let e = unique k.word c w k.codeword hc hb hl k.near hd in (
         k.answers ∙ ap (λ (x : List ℕ). decoded ACCEPTED (places 0 x w)) e,
@@ -80,7 +81,7 @@ module _ (w o a : List ℕ) (r : Decoded) (hb : Bits w) (hl : length w ≡ 67) (
       let t = near-answered (encode info) (encode-codeword info hi li) hd answered in
       (t.0, t.1 ∙ ap (λ (x : List ℕ). written x o) (take_at info (digits_of 14 (parity info)) 53 li))
 
-  lone_answered : Lone w → Answers zero w o r a → (r ≡ decoded NO_WORD []) × (a ≡ o)
+  lone_answered : Lone w → Answers ACCEPTED w o r a → (r ≡ decoded NO_WORD []) × (a ≡ o)
   lone_answered n (inl k) = absurd (n k.word k.codeword k.near)
   lone_answered n (inr k) = (k.1.answers, k.1.leaves)
 
@@ -90,18 +91,18 @@ module _ (w o a : List ℕ) (r : Decoded) (hb : Bits w) (hl : length w ≡ 67) (
 
 -- ---- the decoder as a function
 
-abbrev near_no : Near → ℕ
+abbrev near_no : Near → Option Refusal
 near_no n = first_of (is_none n gives NO_WORD ∷ [])
 
 module _ (w o : List ℕ) where
   near-answers : Bits w → length w ≡ 67 → (n : Near) → near_of w ≡ n
-      → Answers zero w o (decoded (near_no n) (places_to n w)) (kept (near_no n) (written (information_in n) o) o)
-  near-answers hb hl (found c) e =
+      → Answers ACCEPTED w o (decoded (near_no n) (places_to n w)) (kept (near_no n) (written (information_in n) o) o)
+  near-answers hb hl (Some c) e =
       let t = near-found w c e in inl record { word = c; codeword = t.0; near = t.1; answers = refl; leaves = refl }
-  near-answers hb hl none e = inr (near_none w hb hl e, record { answers = refl; leaves = refl })
+  near-answers hb hl None e = inr (near_none w hb hl e, record { answers = refl; leaves = refl })
 
   decodes-by : (x y z : Bool) → eqb (length w) 67 ≡ x → are_bits w ≡ y
-      → (let all : ℕ = first_of (not x gives LENGTH ∷ not y gives NOT_A_BIT ∷ z gives OUTPUT_SHORT ∷ is_none (near_of w) gives NO_WORD ∷ []) in
+      → (let all : Option Refusal = first_of (not x gives LENGTH ∷ not y gives NOT_A_BIT ∷ z gives OUTPUT_SHORT ∷ is_none (near_of w) gives NO_WORD ∷ []) in
       Answers (number_by x y z) w o (decoded all (places_to (near_of w) w)) (kept all (written (information_in (near_of w)) o) o))
   decodes-by true true true ex ey = record { answers = refl; leaves = refl }
   decodes-by true true false ex ey = near-answers (bits_of_lem w ey) (eqb-true (length w) 67 ex) (near_of w) refl

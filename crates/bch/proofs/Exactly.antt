@@ -4,19 +4,19 @@ use mathlib.Core.Path.{◌≡◌, refl, ap, ◌∙◌}
 use mathlib.Core.Logic.{◌↔◌}
 use mathlib.Core.Bool.{true, not, false≢true}
 use mathlib.Core.List.{List, [], ◌∷◌}
-use Prim.Native.Nat.{ℕ, zero, suc, ◌<◌, ◌≤◌}
+use Prim.Native.Nat.{ℕ, ◌<◌, ◌≤◌}
 use lib.Dec.{T, eqb}
 use lib.ListN.{length}
-use Rattle.ground.specs.Refusal.{LENGTH, NOT_A_BIT, OUTPUT_SHORT, NO_WORD, Test, ◌gives◌, first_of}
+use Rattle.std.specs.Prelude.{Option, Some, None, Result}
+use Rattle.ground.specs.Refusal.{LENGTH, NOT_A_BIT, OUTPUT_SHORT, NO_WORD, Test, ◌gives◌, first_of, code}
 use Rattle.ground.specs.Answer.{number_of, short}
 use Rattle.ground.specs.Bits.{Bits, are_bits}
-use Rattle.ground.specs.declared.Counted.{Counted}
-use Rattle.ground.proofs.Answers.{counted-says-number}
+use Rattle.ground.specs.declared.Refusal.{Refusal}
+use Rattle.ground.proofs.Answers.{counted-says-number, answer-says-number}
 use Rattle.ground.proofs.Exactly.{Decides, lacks, less_decides, equal_decides, bits_decide, not_decides, by_test, given-here, given-behind, said_exactly}
 use Rattle.bch.specs.Code.{Lone}
-use Rattle.bch.specs.NearCodeword.{Near, found, none, near_of, is_none, places_to}
-use Rattle.bch.specs.declared.Decoded.{Decoded}
-use Rattle.bch.specs.Promise.{encode_no, encode_answer, decoded_number, decoded, Decodes, decode_no}
+use Rattle.bch.specs.NearCodeword.{Near, near_of, is_none, places_to}
+use Rattle.bch.specs.Promise.{encode_no, encode_answer, Decoded, decoded_number, mended_at, decoded, Decodes, decode_no}
 use Rattle.bch.proofs.NearCodeword.{near_none, lone_none}
 use Rattle.bch.proofs.Determined.{decode_is}
 
@@ -43,16 +43,16 @@ module _ (size needs : ℕ) (w o : List ℕ) (others : List Test) where
       given-behind LENGTH NOT_A_BIT bit_tests size_decides tt (λ h. given-here NOT_A_BIT room_tests (not_decides (bits_decide w)) l)
 
   -- the bits are right: what the tests behind give
-  bits_right : {R : Type 0} (n : ℕ) → T (not (eqb n LENGTH)) → T (not (eqb n NOT_A_BIT)) → (length w ≡ size → Bits w → (first_of room_tests ≡ n) ↔ R)
+  bits_right : {R : Type 0} (n : Option Refusal) → T (not (eqb (code n) (code LENGTH))) → T (not (eqb (code n) (code NOT_A_BIT))) → (length w ≡ size → Bits w → (first_of room_tests ≡ n) ↔ R)
       → (first_of lent_tests ≡ n) ↔ ((length w ≡ size) × (Bits w × R))
   bits_right n x y f = given-behind LENGTH n bit_tests size_decides x (λ h. given-behind NOT_A_BIT n room_tests (not_decides (bits_decide w)) y (f h))
 
   output-short-given : T (lacks OUTPUT_SHORT others) → (first_of lent_tests ≡ OUTPUT_SHORT) ↔ ((length w ≡ size) × (Bits w × (length o < needs)))
   output-short-given l = bits_right OUTPUT_SHORT tt tt (λ h b. given-here OUTPUT_SHORT others (less_decides (length o) needs) l)
 
-none_of : (n : Near) → is_none n ≡ true → n ≡ none
-none_of (found c) e = absurd (false≢true e)
-none_of none e = refl
+none_of : (n : Near) → is_none n ≡ true → n ≡ None
+none_of (Some c) e = absurd (false≢true e)
+none_of None e = refl
 
 lone_decides : (w : List ℕ) → length w ≡ 67 → Bits w → Decides (is_none (near_of w)) (Lone w) (Lone w → ⊥)
 lone_decides w hl hb =
@@ -66,7 +66,7 @@ no-word-given w o =
 
 -- ---- the calls
 
-module _ (info o : List ℕ) (r : Counted) (h : r ≡ encode_answer info o) where
+module _ (info o : List ℕ) (r : Result ℕ Refusal) (h : r ≡ encode_answer info o) where
   encode-number : number_of r ≡ encode_no info o
   encode-number = ap number_of h ∙ counted-says-number (encode_no info o) 67
 
@@ -79,9 +79,8 @@ module _ (info o : List ℕ) (r : Counted) (h : r ≡ encode_answer info o) wher
   pub encode_output_short_exactly : (number_of r ≡ OUTPUT_SHORT) ↔ ((length info ≡ 53) × (Bits info × (length o < 67)))
   encode_output_short_exactly = said_exactly encode-number (output-short-given 53 67 info o [] tt)
 
-pub decoded-says-number : (no : ℕ) (ps : List ℕ) → decoded_number (decoded no ps) ≡ no
-decoded-says-number zero ps = refl
-decoded-says-number (suc k) ps = refl
+pub decoded-says-number : (refusal : Option Refusal) (ps : List ℕ) → decoded_number (decoded refusal ps) ≡ refusal
+decoded-says-number refusal ps = answer-says-number refusal (mended_at ps)
 
 module _ (w o a : List ℕ) (r : Decoded) (h : Decodes w o r a) where
   decode_number : decoded_number r ≡ decode_no w o

@@ -10,8 +10,7 @@ use Rattle.ground.proofs.Bits.{zeros-bits, bits-append}
 use Rattle.bch.specs.Polynomial.{division_step}
 use Rattle.bch.specs.Code.{remainder_of, parity, Lone}
 use Rattle.bch.specs.Field.{times_x, syndrome1}
-use Rattle.bch.specs.Promise.{decoded, Decodes}
-use Rattle.bch.specs.declared.Decoded.{Decoded}
+use Rattle.bch.specs.Promise.{Decoded, decoded, Decodes}
 use Rattle.bch.proofs.Pattern.{zero_syndrome_no_pattern}
 use Rattle.bch.proofs.Flipped.{no_pattern_lone}
 use Rattle.bch.proofs.Determined.{refuses}

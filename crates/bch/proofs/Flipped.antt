@@ -17,7 +17,8 @@ use Rattle.ground.specs.Bits.{Bits}
 use Rattle.bch.specs.Code.{remainder_of, Codeword, places, Lone}
 use Rattle.bch.specs.Search.{added, Rising, Locates, flip, mended, named, Changes, NoPattern}
 use Rattle.bch.specs.declared.search.Found.{Found}
-use Rattle.bch.specs.declared.search.Found.TheVariants.{One, Clean, Two, NoWord}
+use Rattle.bch.specs.declared.search.Found.TheVariants.{One, Clean, Two}
+use Rattle.std.specs.Prelude.{Option, Some, None}
 use Rattle.bch.proofs.Places.{placed, places_self, places-rising, remainder_places}
 use Rattle.bch.proofs.Distance.{places_add_remainder}
 
@@ -73,13 +74,11 @@ pub mended-length : (w : List ℕ) (r : Found) → length (mended w r) ≡ lengt
 mended-length w Clean = refl
 mended-length w (One i) = flip-length w i
 mended-length w (Two i j) = flip-length (flip w i) j ∙ flip-length w i
-mended-length w NoWord = refl
 
 pub mended-bits : (w : List ℕ) (r : Found) → Bits w → Bits (mended w r)
 mended-bits w Clean h = h
 mended-bits w (One i) h = flip_bits w i h
 mended-bits w (Two i j) h = flip_bits (flip w i) j (flip_bits w i h)
-mended-bits w NoWord h = h
 
 -- a word mended in rising places differs in these and nowhere else
 pub mended-places : (w : List ℕ) (r : Found) → Bits w → length w ≡ 67 → Rising 0 (named r) → places 0 (mended w r) w ≡ named r
@@ -90,7 +89,6 @@ mended-places w (Two i j) hb hl hi =
     let z : 0 + i ≡ i = omega arith in
     let y : 0 + j ≡ j = omega arith in
     flips_places 0 w i j hb hi.2.0 (omega arith) ∙ ap₂ (λ (m n : ℕ). m ∷ n ∷ []) z y
-mended-places w NoWord hb hl hi = places_self 0 w
 
 -- and is a codeword, where they add up to its remainder
 mended-codeword : (w : List ℕ) (r : Found) → Bits w → length w ≡ 67 → Rising 0 (named r) → added (named r) ≡ remainder_of 0 w → Codeword (mended w r)
@@ -109,8 +107,8 @@ no_pattern_lone w hb hl h c hc hd =
     h (places 0 c w) (places-rising 0 c w (omega arith)) hd (places_add_remainder c w hc hb hl)
 
 -- what the search names for the remainder is promised of the word
-pub located_changes : (w : List ℕ) (r : Found) → Bits w → length w ≡ 67 → Locates (remainder_of 0 w) r → Changes w r
-located_changes w Clean hb hl h = record { size = hl; bits = hb; divided = h }
-located_changes w (One i) hb hl h = (h.0.1, mended-codeword w (One i) hb hl h.0 h.1)
-located_changes w (Two i j) hb hl h = (h.0.2.0, h.0.2.1, mended-codeword w (Two i j) hb hl h.0 h.1)
-located_changes w NoWord hb hl h = no_pattern_lone w hb hl h
+pub located_changes : (w : List ℕ) (r : Option Found) → Bits w → length w ≡ 67 → Locates (remainder_of 0 w) r → Changes w r
+located_changes w (Some Clean) hb hl h = record { size = hl; bits = hb; divided = h }
+located_changes w (Some (One i)) hb hl h = (h.0.1, mended-codeword w (One i) hb hl h.0 h.1)
+located_changes w (Some (Two i j)) hb hl h = (h.0.2.0, h.0.2.1, mended-codeword w (Two i j) hb hl h.0 h.1)
+located_changes w None hb hl h = no_pattern_lone w hb hl h

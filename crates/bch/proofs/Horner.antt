@@ -1,7 +1,7 @@
 -- Horner's rule at a point whose product is additive: it stays among the elements and takes sums to sums, on both
 -- sides; and the loop that sums its terms. Assumes nothing.
 use mathlib.Core.Path.{◌≡◌, refl, sym, ap, ap₂, ◌∙◌, subst}
-use Prim.Native.Nat.{ℕ, zero, suc, ◌-◌, ◌*◌, ◌/◌, ◌%◌, ◌^◌, ◌<◌, ◌≤◌}
+use Prim.Native.Nat.{ℕ, zero, suc, ◌*◌, ◌/◌, ◌%◌, ◌^◌, ◌<◌, ◌≤◌}
 use native.Mathlib.Omega.{arith}
 use lib.Bits.{bit_xor, xor_lt, xor_zero_r, xor_comm, xor_self}
 use Rattle.ground.proofs.Xor.{odd, xor_half, bit_cases, xor_assoc}
@@ -57,16 +57,15 @@ module _ (f : ℕ → ℕ) (hf : Additive f) where
   Summing whole sum term rest left = (term < 2 ^ 7) × (bit_xor sum (horner f left term rest) ≡ whole)
 
   -- the lowest digit's term goes into the sum, and the rest is at the next term
-  pub sum-next : (whole sum term rest left next : ℕ) → Summing whole sum term rest left → 0 < left → next ≡ f term
-      → Summing whole (bit_xor sum (rest % 2 * term)) next (rest / 2) (left - 1)
-  sum-next whole sum term rest left next s p en =
-      let z : left ≡ suc (left - 1) = omega arith in
+  pub sum-next : (whole sum term rest left later next : ℕ) → Summing whole sum term rest left → left ≡ suc later → next ≡ f term
+      → Summing whole (bit_xor sum (rest % 2 * term)) next (rest / 2) later
+  sum-next whole sum term rest left later next s z en =
       let t : ℕ = rest % 2 * term in
-      let g : horner f left term rest ≡ bit_xor t (horner f (left - 1) next (rest / 2)) =
-      ap (λ (k : ℕ). horner f k term rest) z ∙ xor_comm (f (horner f (left - 1) term (rest / 2))) t
-      ∙ ap (bit_xor t) (sym (ap (λ (x : ℕ). horner f (left - 1) x (rest / 2)) en ∙ horner-out (left - 1) term (rest / 2) s.0)) in (
+      let g : horner f left term rest ≡ bit_xor t (horner f later next (rest / 2)) =
+      ap (λ (k : ℕ). horner f k term rest) z ∙ xor_comm (f (horner f later term (rest / 2))) t
+      ∙ ap (bit_xor t) (sym (ap (λ (x : ℕ). horner f later x (rest / 2)) en ∙ horner-out later term (rest / 2) s.0)) in (
         subst (λ (x : ℕ). x < 2 ^ 7) (sym en) (hf.lt term s.0),
-        xor_assoc sum t (horner f (left - 1) next (rest / 2)) ∙ ap (bit_xor sum) (sym g) ∙ s.1,
+        xor_assoc sum t (horner f later next (rest / 2)) ∙ ap (bit_xor sum) (sym g) ∙ s.1,
       )
 
   pub sum_done : (whole sum term rest left : ℕ) → Summing whole sum term rest left → left ≤ 0 → sum ≡ whole

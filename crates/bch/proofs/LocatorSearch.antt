@@ -1,12 +1,11 @@
 -- The search for the locator's roots: one degree on, two degrees on, and from the first terms on. Assumes nothing.
 use mathlib.Core.Path.{◌≡◌, refl, sym, ap, ap₂, ◌∙◌, subst}
 use Prim.Native.Nat.{ℕ, zero, suc, ◌+◌, ◌-◌, ◌^◌, ◌<◌, ◌≤◌}
-use native.Mathlib.Decide.{dec_lt, ℕ_discrete}
+use native.Mathlib.Decide.{ℕ_discrete}
 use native.Mathlib.Omega.{arith}
 use lib.Bits.{bit_xor}
 use Rattle.bch.specs.Field.{times_x, mul, times_x2, times_x4}
-use Rattle.bch.specs.Search.{repeated, value_at, Passed}
-use Rattle.bch.proofs.TimesX.{Additive, times_x_additive, times_x2_additive}
+use Rattle.bch.specs.Search.{repeated, value_at, Passed, NoRoot}
 use Rattle.bch.proofs.Product.{mul-lt}
 use Rattle.bch.proofs.GaloisField.{one-mul, mul_comm}
 use Rattle.bch.proofs.Point.{alpha, second_term_next, first_term_next, point}
@@ -16,33 +15,12 @@ repeated_add : (f : ℕ → ℕ) (m k a : ℕ) → repeated f (m + k) a ≡ repe
 repeated_add f zero k a = let e : zero + k ≡ k = omega arith in ap (λ (n : ℕ). repeated f n a) e
 repeated_add f (suc m) k a = let e : suc m + k ≡ suc (m + k) = omega arith in ap (λ (n : ℕ). repeated f n a) e ∙ ap f (repeated_add f m k a)
 
-repeated_lt : (f : ℕ → ℕ) → Additive f → (k a : ℕ) → a < 2 ^ 7 → repeated f k a < 2 ^ 7
-repeated_lt f hf zero a h = h
-repeated_lt f hf (suc k) a h = hf.lt (repeated f k a) (repeated_lt f hf k a h)
-
 repeated-one-more : (f : ℕ → ℕ) (d e a b c : ℕ) → d ≤ e → b ≡ repeated f (e - d) a → c ≡ f b → c ≡ repeated f (e + 1 - d) a
 repeated-one-more f d e a b c h p q = let z : e + 1 - d ≡ suc (e - d) = omega arith in q ∙ ap f p ∙ sym (ap (λ (n : ℕ). repeated f n a) z)
 
 -- ---- the search moves on
 
-pub passed_none : (c p q d : ℕ) → d ≤ 67 → Passed c p q d p q d
-passed_none c p q d h =
-    let z : d - d ≡ 0 = omega arith in
-    record {
-      on = omega arith;
-      within = h;
-      first = sym (ap (λ (n : ℕ). repeated times_x2 n p) z);
-      second = sym (ap (λ (n : ℕ). repeated times_x n q) z);
-      none = λ k l e. absurd (omega arith);
-    }
-
 module _ {c p q d p' q' d' : ℕ} (s : Passed c p q d p' q' d') where
-  pub passed-lt : p < 2 ^ 7 → q < 2 ^ 7 → (p' < 2 ^ 7) × (q' < 2 ^ 7)
-  passed-lt hp hq = (
-    subst (λ (x : ℕ). x < 2 ^ 7) (sym s.first) (repeated_lt times_x2 times_x2_additive (d' - d) p hp),
-    subst (λ (x : ℕ). x < 2 ^ 7) (sym s.second) (repeated_lt times_x times_x_additive (d' - d) q hq),
-  )
-
   pub passed-one : {r t : ℕ} → d' < 67 → (bit_xor p' q' ≡ c → ⊥) → r ≡ times_x2 p' → t ≡ times_x q' → Passed c p q d r t (d' + 1)
   passed-one h n er et =
       let o = s.on in
@@ -64,39 +42,9 @@ passed-two {c} {p} {q} {d} {p'} {q'} {d'} {r} {t} s h n m er et =
     let z : d' + 1 + 1 ≡ d' + 2 = omega arith in
     subst (λ (e : ℕ). Passed c p q d r t e) z (passed-one (passed-one s (omega arith) n refl refl) (omega arith) m er et)
 
--- what was passed first, and then
-pub passed_then : {c p q d p' q' d' p2 q2 d2 : ℕ} → Passed c p q d p' q' d' → Passed c p' q' d' p2 q2 d2 → Passed c p q d p2 q2 d2
-passed_then {c} {p} {q} {d} {p'} {q'} {d'} {p2} {q2} {d2} s t =
-    let o = s.on in
-    let m = t.on in
-    record {
-      on = omega arith;
-      within = t.within;
-      first = t.first ∙ both times_x2 p p' (d2 - d') (d2 - d) s.first (omega arith);
-      second = t.second ∙ both times_x q q' (d2 - d') (d2 - d) s.second (omega arith);
-      none = λ k l e. by k l e (dec_lt k (d' - d));
-    }
-  where
-    both : (f : ℕ → ℕ) (a b m n : ℕ) → b ≡ repeated f (d' - d) a → m + (d' - d) ≡ n → repeated f m b ≡ repeated f n a
-    both f a b m n e z = ap (repeated f m) e ∙ sym (repeated_add f m (d' - d) a) ∙ ap (λ (k : ℕ). repeated f k a) z
-
-    by : (k : ℕ) → k < d2 - d → value_at p q k ≡ c → Dec (k < d' - d) → ⊥
-    by k l e (yes h) = s.none k h e
-    by k l e (no h) =
-        let o = s.on in
-        let m = t.on in
-        t.none (k - (d' - d)) (omega arith)
-        (ap₂ bit_xor (both times_x2 p p' (k - (d' - d)) k s.first (omega arith)) (both times_x q q' (k - (d' - d)) k s.second (omega arith)) ∙ e)
-
--- the terms of a search from S1 and its square, and those one degree on, are elements
-pub terms_lt : {c u w d p q d' : ℕ} → u < 2 ^ 7 → w ≡ mul u u → Passed c u w d p q d' → (p < 2 ^ 7) × (q < 2 ^ 7)
-terms_lt {c} {u} h e s = passed-lt s h (subst (λ (x : ℕ). x < 2 ^ 7) (sym e) (mul-lt u u))
-
-pub next-lt : {p q r t : ℕ} → p < 2 ^ 7 → q < 2 ^ 7 → r ≡ times_x2 p → t ≡ times_x q → (r < 2 ^ 7) × (t < 2 ^ 7)
-next-lt {p} {q} hp hq er et = (
-  subst (λ (x : ℕ). x < 2 ^ 7) (sym er) (times_x2_additive.lt p hp),
-  subst (λ (x : ℕ). x < 2 ^ 7) (sym et) (times_x_additive.lt q hq),
-)
+-- from a degree on, all others are passed where none of them is a root
+pub passed_all : {c p q d : ℕ} → d ≤ 67 → NoRoot c p q d → Passed c p q d (repeated times_x2 (67 - d) p) (repeated times_x (67 - d) q) 67
+passed_all h n = record { on = h; within = omega arith; first = refl; second = refl; none = n }
 
 -- ---- from the first terms on
 

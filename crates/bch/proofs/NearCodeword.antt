@@ -10,10 +10,11 @@ use native.Mathlib.Omega.{arith}
 use lib.Dec.{eqb}
 use lib.ListN.{length}
 use borrow.Author.Tests.{eqb-true, eqb-false, eq-eqb}
+use Rattle.std.specs.Prelude.{Some, None}
 use Rattle.ground.specs.Bits.{Bits, are_bits}
 use Rattle.ground.proofs.Bits.{bits_of_lem, are-bits}
 use Rattle.bch.specs.Code.{remainder_of, Codeword, places, distance, Lone}
-use Rattle.bch.specs.NearCodeword.{neighbours, is_codeword, Near, first_codeword, near_of, found, none}
+use Rattle.bch.specs.NearCodeword.{neighbours, is_codeword, Near, first_codeword, near_of}
 use Rattle.bch.proofs.Places.{placed, placed_at_most, places_self, no_places_equal}
 use Rattle.bch.proofs.Distance.{unique}
 
@@ -86,52 +87,52 @@ unfolding is_codeword
 test_of_codeword w h = ap₂ ◌&&◌ (eq-eqb (length w) 67 h.size) (ap₂ ◌&&◌ (are-bits w h.bits) (eq-eqb (remainder_of 0 w) 0 h.divided))
 
 module _ (v c : List ℕ) (ws : List (List ℕ)) where
-  first-found-next : (t : Bool) → is_codeword v ≡ t → cond t (found v) (first_codeword ws) ≡ found c
-      → (first_codeword ws ≡ found c → Memᴰ c ws × Codeword c) → Memᴰ c (v ∷ ws) × Codeword c
+  first-found-next : (t : Bool) → is_codeword v ≡ t → cond t (Some v) (first_codeword ws) ≡ Some c
+      → (first_codeword ws ≡ Some c → Memᴰ c ws × Codeword c) → Memᴰ c (v ∷ ws) × Codeword c
   first-found-next true e f h = let g : v ≡ c = cc in (Memᴰ.head (sym g), subst (λ (l : List ℕ). Codeword l) g (codeword_by_test v e))
   first-found-next false e f h = (Memᴰ.tail (h f).0, (h f).1)
 
-  first-none-next : (t : Bool) → is_codeword v ≡ t → cond t (found v) (first_codeword ws) ≡ none → Codeword c
-      → (first_codeword ws ≡ none → Memᴰ c ws → ⊥) → (c ≡ v) ⊎ Memᴰ c ws → ⊥
+  first-none-next : (t : Bool) → is_codeword v ≡ t → cond t (Some v) (first_codeword ws) ≡ None → Codeword c
+      → (first_codeword ws ≡ None → Memᴰ c ws → ⊥) → (c ≡ v) ⊎ Memᴰ c ws → ⊥
   first-none-next true e f hc h m = let z : ◌≡◌ {A = ℕ} 0 1 = cc in omega arith
   first-none-next false e f hc h (inl g) =
       let k : is_codeword v ≡ true = ap is_codeword (sym g) ∙ test_of_codeword c hc in
       let z : ◌≡◌ {A = ℕ} 0 1 = cc in omega arith
   first-none-next false e f hc h (inr m) = h f m
 
-first_found : (ws : List (List ℕ)) (c : List ℕ) → first_codeword ws ≡ found c → Memᴰ c ws × Codeword c
+first_found : (ws : List (List ℕ)) (c : List ℕ) → first_codeword ws ≡ Some c → Memᴰ c ws × Codeword c
 unfolding first_codeword
 first_found [] c e = let z : ◌≡◌ {A = ℕ} 0 1 = cc in absurd (omega arith)
 first_found (v ∷ ws) c e = first-found-next v c ws (is_codeword v) refl e (first_found ws c)
 
-first-none : (ws : List (List ℕ)) (c : List ℕ) → Codeword c → first_codeword ws ≡ none → Memᴰ c ws → ⊥
+first-none : (ws : List (List ℕ)) (c : List ℕ) → Codeword c → first_codeword ws ≡ None → Memᴰ c ws → ⊥
 unfolding first_codeword
 first-none [] c hc e m = Memᴰ.not-nil m
 first-none (v ∷ ws) c hc e m = first-none-next v c ws (is_codeword v) refl e hc (first-none ws c hc) (Memᴰ.cases_cons m)
 
 -- ---- the codeword within distance two
 
-pub near-found : (w c : List ℕ) → near_of w ≡ found c → Codeword c × (distance c w ≤ 2)
+pub near-found : (w c : List ℕ) → near_of w ≡ Some c → Codeword c × (distance c w ≤ 2)
 unfolding near_of
 near-found w c e = let t = first_found (neighbours 2 w) c e in (t.1, neighbours-near 2 0 w c t.0)
 
-lone_none_by : (w : List ℕ) → Lone w → (n : Near) → near_of w ≡ n → near_of w ≡ none
-lone_none_by w h (found c) e = let t = near-found w c e in absurd (h c t.0 t.1)
-lone_none_by w h none e = e
+lone_none_by : (w : List ℕ) → Lone w → (n : Near) → near_of w ≡ n → near_of w ≡ None
+lone_none_by w h (Some c) e = let t = near-found w c e in absurd (h c t.0 t.1)
+lone_none_by w h None e = e
 
-pub lone_none : (w : List ℕ) → Lone w → near_of w ≡ none
+pub lone_none : (w : List ℕ) → Lone w → near_of w ≡ None
 lone_none w h = lone_none_by w h (near_of w) refl
 
 module _ (w : List ℕ) (hb : Bits w) (hl : length w ≡ 67) where
-  pub near_none : near_of w ≡ none → Lone w
+  pub near_none : near_of w ≡ None → Lone w
   unfolding near_of
   near_none e c hc hd = first-none (neighbours 2 w) c hc e (near-neighbours 2 0 w c hc.bits hb (hc.size ∙ sym hl) (omega arith) hd)
 
-  near_is_by : (c : List ℕ) → Codeword c → distance c w ≤ 2 → (n : Near) → near_of w ≡ n → near_of w ≡ found c
-  near_is_by c hc hd (found d) e =
-      let t = near-found w d e in e ∙ ap found (unique d c w t.0 hc hb hl t.1 hd)
-  near_is_by c hc hd none e = absurd (near_none e c hc hd)
+  near_is_by : (c : List ℕ) → Codeword c → distance c w ≤ 2 → (n : Near) → near_of w ≡ n → near_of w ≡ Some c
+  near_is_by c hc hd (Some d) e =
+      let t = near-found w d e in e ∙ ap Some (unique d c w t.0 hc hb hl t.1 hd)
+  near_is_by c hc hd None e = absurd (near_none e c hc hd)
 
   -- a codeword within distance two is the one that is found
-  pub near_is : (c : List ℕ) → Codeword c → distance c w ≤ 2 → near_of w ≡ found c
+  pub near_is : (c : List ℕ) → Codeword c → distance c w ≤ 2 → near_of w ≡ Some c
   near_is c hc hd = near_is_by c hc hd (near_of w) refl

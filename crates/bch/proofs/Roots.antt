@@ -25,6 +25,11 @@ syndromes_are {s} {u} {v} {q} {t} h e f z g k = record {
   rest = ap (bit_xor v) (k ∙ ap (λ (x : ℕ). mul x u) g);
 }
 
+-- the same with c as it was worked out
+pub syndromes_worked : {s u v c q t d : ℕ} → Syndromes s u v c → q ≡ mul u u → t ≡ mul q u → d ≡ bit_xor v t → Syndromes s u v d
+syndromes_worked {s} {u} {v} {c} {q} {t} {d} g eq et ed =
+    subst (λ (x : ℕ). Syndromes s u v x) (sym (ed ∙ ap (bit_xor v) (et ∙ ap (λ (x : ℕ). mul x u) eq) ∙ sym g.rest)) g
+
 pub syndromes_of : (s : ℕ) → s < 2 ^ 14 → (syndrome1 s ≡ 0 → ⊥) → Syndromes s (syndrome1 s) (syndrome3 s) (bit_xor (syndrome3 s) (cube (syndrome1 s)))
 syndromes_of s h z = syndromes_are h refl refl z refl refl
 

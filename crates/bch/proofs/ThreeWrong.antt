@@ -12,8 +12,7 @@ use Rattle.ground.specs.Bits.{Bits}
 use Rattle.ground.proofs.Bits.{zeros-bits, bits-append}
 use Rattle.bch.specs.Polynomial.{division_step}
 use Rattle.bch.specs.Code.{encode, distance}
-use Rattle.bch.specs.Promise.{decoded, Decodes}
-use Rattle.bch.specs.declared.Decoded.{Decoded}
+use Rattle.bch.specs.Promise.{Decoded, decoded, Decodes}
 use Rattle.bch.proofs.Determined.{corrects}
 
 -- the information that is sent, and another: places 42, 50 and 52 set

@@ -2,13 +2,13 @@
 -- that come up fall to x^0 and x^3, computed at the 128 elements. Assumes nothing.
 use mathlib.Core.Path.{◌≡◌, refl, ap, ◌∙◌}
 use mathlib.Core.Bool.{Bool}
-use Prim.Native.Nat.{ℕ, ◌-◌, ◌*◌, ◌/◌, ◌%◌, ◌^◌, ◌<◌}
+use Prim.Native.Nat.{ℕ, zero, suc, ◌-◌, ◌*◌, ◌/◌, ◌%◌, ◌^◌, ◌<◌, ◌≤◌}
 use native.Mathlib.Omega.{arith}
 use lib.Bits.{bit_xor, xor_self}
-use lib.Dec.{T, eqb, eqb→eq}
+use lib.Dec.{T, eqb, eqb→eq, ltb, ltb→lt}
 use Rattle.ground.proofs.Tests.{below, below_at}
 use Rattle.bch.specs.Polynomial.{division_step}
-use Rattle.bch.specs.Field.{FIELD, times_x, times_x2, times_x3, times_x4}
+use Rattle.bch.specs.Field.{FIELD, times_x, times_x2, times_x3, times_power}
 use Rattle.bch.proofs.Division.{division_step-lt, division_step-xor}
 
 pub record Additive (f : ℕ → ℕ) : Type 0 where
@@ -40,30 +40,32 @@ times_x-lt = times_x_additive.lt
 pub times_x_zero : times_x 0 ≡ 0
 times_x_zero = times_x_additive.xor 0 0 (omega arith) (omega arith) ∙ xor_self (times_x 0)
 
+pub power_additive : (k : ℕ) → Additive (times_power k)
+power_additive zero = record { lt = λ a h. h; xor = λ a b h k. refl }
+power_additive (suc k) = additive_after times_x (times_power k) times_x_additive (power_additive k)
+
 -- ---- as shifts
 
-abbrev shifted : ℕ → ℕ → ℕ
-shifted k a = bit_xor (bit_xor (a % 2 ^ (7 - k) * 2 ^ k) (a / 2 ^ (7 - k))) (a / 2 ^ (7 - k) * 8)
+-- the digits that stay, and those that come up
+abbrev pub stays : ℕ → ℕ → ℕ
+stays k a = a % (1 * 2 ^ (7 - k) % 256) * (1 * 2 ^ k % 256)
 
-abbrev shifted_at : (ℕ → ℕ) → ℕ → ℕ → Bool
-shifted_at f k a = eqb (shifted k a) (f a)
+abbrev pub comes_up : ℕ → ℕ → ℕ
+comes_up k a = a / 2 ^ (7 - k)
 
-module _ (f : ℕ → ℕ) (k : ℕ) (ok : T (below 128 (shifted_at f k))) where
-  shifted_by : (a : ℕ) → a < 2 ^ 7 → shifted k a ≡ f a
-  shifted_by a h = eqb→eq (shifted k a) (f a) (below_at 128 (shifted_at f k) ok a h)
+abbrev pub shifted : ℕ → ℕ → ℕ
+shifted k a = bit_xor (bit_xor (stays k a) (comes_up k a)) (comes_up k a * 8)
 
-pub times_x-shifted : (a : ℕ) → a < 2 ^ 7 → shifted 1 a ≡ times_x a
+-- a test that holds of each k up to four and each element
+by_elements : (f : ℕ → ℕ → Bool) → T (below 5 (λ k. below 128 (f k))) → (k a : ℕ) → k ≤ 4 → a < 2 ^ 7 → T (f k a)
+by_elements f ok k a hk ha = below_at 128 (f k) (below_at 5 (λ j. below 128 (f j)) ok k (omega arith)) a ha
+
+pub stays_fits : (k a : ℕ) → k ≤ 4 → a < 2 ^ 7 → stays k a < 256
+stays_fits k a hk ha = ltb→lt (stays k a) 256 (by_elements (λ j b. ltb (stays j b) 256) tt k a hk ha)
+
+pub comes_up_fits : (k a : ℕ) → k ≤ 4 → a < 2 ^ 7 → comes_up k a * 8 < 256
+comes_up_fits k a hk ha = ltb→lt (comes_up k a * 8) 256 (by_elements (λ j b. ltb (comes_up j b * 8) 256) tt k a hk ha)
+
+pub power_shifted : (k a : ℕ) → k ≤ 4 → a < 2 ^ 7 → shifted k a ≡ times_power k a
 unfolding division_step times_x
-times_x-shifted = shifted_by times_x 1 tt
-
-pub times_x2-shifted : (a : ℕ) → a < 2 ^ 7 → shifted 2 a ≡ times_x2 a
-unfolding division_step times_x
-times_x2-shifted = shifted_by times_x2 2 tt
-
-pub times_x3-shifted : (a : ℕ) → a < 2 ^ 7 → shifted 3 a ≡ times_x3 a
-unfolding division_step times_x
-times_x3-shifted = shifted_by times_x3 3 tt
-
-pub times_x4-shifted : (a : ℕ) → a < 2 ^ 7 → shifted 4 a ≡ times_x4 a
-unfolding division_step times_x
-times_x4-shifted = shifted_by times_x4 4 tt
+power_shifted k a hk ha = eqb→eq (shifted k a) (times_power k a) (by_elements (λ j b. eqb (shifted j b) (times_power j b)) tt k a hk ha)

@@ -10,11 +10,12 @@ use native.Mathlib.Numerals.{add-one}
 use native.Mathlib.Omega.{arith}
 use lib.Bits.{bit_xor, xor_zero_r}
 use lib.Dec.{eqb}
+use Rattle.std.specs.Prelude.{Some}
 use lib.ListN.{length, drop, get_or, drop_of_length-le}
 use lib.Seq.{drop-cons}
 use borrow.Author.Tests.{eq-eqb}
-use Rattle.ground.specs.Bits.{Bits}
-use Rattle.ground.proofs.Bits.{are-bits}
+use Rattle.ground.specs.Bits.{Bits, are_bits}
+use Rattle.ground.proofs.Bits.{bits_of_lem, are-bits}
 use Rattle.bch.specs.Polynomial.{division_step}
 use Rattle.bch.specs.Code.{GENERATOR, step, remainder_of, Codeword, places, distance}
 use Rattle.bch.specs.NearCodeword.{is_codeword}
@@ -22,7 +23,7 @@ use Rattle.bch.specs.Search.{Rising, flip, mended, named, PastChanges, NextChang
 use Rattle.bch.specs.declared.search.Found.{Found}
 use Rattle.bch.specs.declared.search.Found.TheVariants.{Clean, One, Two}
 use Rattle.bch.proofs.Places.{places-rising, same_places_equal}
-use Rattle.bch.proofs.Flipped.{mended-length, mended-bits, mended-places}
+use Rattle.bch.proofs.Flipped.{flip-length, flip_bits, mended-length, mended-bits, mended-places}
 use Rattle.bch.proofs.NearCodeword.{codeword_by_test, test_of_codeword}
 
 -- ---- long division, bit after bit
@@ -61,9 +62,6 @@ not-codeword w e h =
     let z : ◌≡◌ {A = ℕ} 0 1 = cc in omega arith
 
 module _ (w : List ℕ) (k : ℕ) where
-  pub past-none : k ≤ 67 → PastChanges w k k
-  past-none h = record { on = omega arith; within = h; none = λ i a b. absurd (omega arith) }
-
   module _ (r : ℕ) (h : PastChanges w k r) where
     pub past_one : r < 67 → is_codeword (flip w r) ≡ false → PastChanges w k (r + 1)
     past_one l e = record { on = omega arith; within = omega arith; none = λ i a b. by i a b (dec_lt i r) }
@@ -74,26 +72,21 @@ module _ (w : List ℕ) (k : ℕ) where
             let z : r ≡ i = omega arith in
             subst (λ (n : ℕ). Codeword (flip w n) → ⊥) z (not-codeword (flip w r) e)
 
-    pub change_makes : is_codeword (flip w r) ≡ true → NextChange w k r
-    change_makes e = record { past = h; makes = λ l. codeword_by_test (flip w r) e }
+    pub change_makes : r < 67 → is_codeword (flip w r) ≡ true → NextChange w k (Some r)
+    change_makes l e = (h, l, codeword_by_test (flip w r) e)
 
-    pub no_change_left : 67 ≤ r → NextChange w k r
-    no_change_left l = record { past = h; makes = λ m. absurd (omega arith) }
+-- the bits with one flipped are as many bits
+pub flipped_lent : (w v : List ℕ) (i : ℕ) → length w ≡ 67 → are_bits w ≡ true → v ≡ flip w i → (length v ≡ 67) × (are_bits v ≡ true)
+flipped_lent w v i l h e = (
+  ap length e ∙ flip-length w i ∙ l,
+  ap are_bits e ∙ are-bits (flip w i) (flip_bits w i (bits_of_lem w h)),
+)
 
 -- ---- the next pair
 
 -- no pair whose first place is below n makes a codeword
 abbrev pub PastPairs : List ℕ → ℕ → Type 0
 PastPairs w n = (i j : ℕ) → i < n → i < j → j < 67 → Codeword (flip (flip w i) j) → ⊥
-
-pub past-pair : (w : List ℕ) (n r : ℕ) → PastPairs w n → NextChange (flip w n) (n + 1) r → 67 ≤ r → PastPairs w (n + 1)
-past-pair w n r h t l i j a b m = by (dec_lt i n)
-  where
-    by : Dec (i < n) → Codeword (flip (flip w i) j) → ⊥
-    by (yes x) = h i j x b m
-    by (no x) =
-        let z : n ≡ i = omega arith in
-        subst (λ (k : ℕ). Codeword (flip (flip w k) j) → ⊥) z (t.past.none j (omega arith) (omega arith))
 
 -- ---- all changes
 

@@ -23,6 +23,11 @@ horner f (suc n) a b = bit_xor (f (horner f n a (b / 2))) (b % 2 * a)
 unfoldable pub mul : ℕ → ℕ → ℕ
 mul a b = horner times_x 7 (a % 2 ^ 7) b
 
+-- an element times x^k
+abbrev pub times_power : ℕ → ℕ → ℕ
+times_power zero a = a
+times_power (suc k) a = times_x (times_power k a)
+
 -- an element times x^2, x^3, x^4
 abbrev pub times_x2 : ℕ → ℕ
 times_x2 a = times_x (times_x a)

@@ -1,18 +1,17 @@
 -- Document 01, 'TPS' and 'Refusal numbers': what the encoder and the decoder answer, and what they leave in the lent
 -- output.
-use Rattle.std.specs.Prelude.{◌≡◌, not, List, [], ◌∷◌, ◌⊎◌, ℕ, zero, suc, ◌≤◌, eqb, length, take, get_or}
+use Rattle.std.specs.Prelude.{◌≡◌, not, List, [], ◌∷◌, ◌⊎◌, ℕ, ◌≤◌, eqb, length, take, get_or}
+use Rattle.std.specs.Prelude.{Option, Some, None, Result}
 use Rattle.ground.specs.Refusal.{ACCEPTED, LENGTH, NOT_A_BIT, OUTPUT_SHORT, NO_WORD, ◌gives◌, first_of}
-use Rattle.ground.specs.Answer.{counted, kept, written, short}
+use Rattle.ground.specs.Answer.{answer_by, number_of, value_or, counted, kept, written, short}
 use Rattle.ground.specs.Bits.{are_bits}
-use Rattle.ground.specs.declared.Counted.{Counted}
+use Rattle.ground.specs.declared.Refusal.{Refusal}
 use Rattle.bch.specs.Code.{Codeword, places, distance, encode, Lone}
 use Rattle.bch.specs.NearCodeword.{near_of, is_none, information_in, places_to}
 use Rattle.bch.specs.declared.Mended.{Mended}
-use Rattle.bch.specs.declared.Decoded.{Decoded}
-use Rattle.bch.specs.declared.Decoded.TheVariants.{Information, Refused}
 
--- the number of a call that takes `size` bits and writes `needs`, by the slices that it is lent
-abbrev pub lent_no : ℕ → ℕ → List ℕ → List ℕ → ℕ
+-- the refusal of a call that takes `size` bits and writes `needs`, by the slices that it is lent
+abbrev pub lent_no : ℕ → ℕ → List ℕ → List ℕ → Option Refusal
 lent_no size needs bits out =
     first_of
     (not (eqb (length bits) size) gives LENGTH
@@ -22,11 +21,11 @@ lent_no size needs bits out =
 
 -- ---- the encoder
 
-abbrev pub encode_no : List ℕ → List ℕ → ℕ
+abbrev pub encode_no : List ℕ → List ℕ → Option Refusal
 encode_no info out = lent_no 53 67 info out
 
 -- what it answers, and what it leaves
-abbrev pub encode_answer : List ℕ → List ℕ → Counted
+abbrev pub encode_answer : List ℕ → List ℕ → Result ℕ Refusal
 encode_answer info out = counted (encode_no info out) 67
 
 abbrev pub encode_leaves : List ℕ → List ℕ → List ℕ
@@ -46,19 +45,20 @@ mended_at ps = record { count = length ps; first = get_or ps 0 NO_PLACE; second 
 abbrev pub places_in : Mended → List ℕ
 places_in m = take m.count (m.first ∷ m.second ∷ [])
 
--- document 01's number and the changed places, for each case of an answer
-abbrev pub decoded_number : Decoded → ℕ
-decoded_number (Information m) = ACCEPTED
-decoded_number (Refused k) = k
+-- the bits that were changed where the information was written, or the refusal
+abbrev pub Decoded : Type 0
+Decoded = Result Mended Refusal
+
+-- the refusal and the changed places, for each case of an answer
+abbrev pub decoded_number : Decoded → Option Refusal
+decoded_number r = number_of r
 
 abbrev pub mended_in : Decoded → Mended
-mended_in (Information m) = m
-mended_in (Refused k) = mended_at []
+mended_in r = value_or (mended_at []) r
 
--- the answer of a call whose number is no: the changed places where it is 0, else the refusal
-abbrev pub decoded : ℕ → List ℕ → Decoded
-decoded zero ps = Information (mended_at ps)
-decoded (suc k) ps = Refused (suc k)
+-- the answer of a call: the changed places where it is accepted, else the refusal
+abbrev pub decoded : Option Refusal → List ℕ → Decoded
+decoded refusal ps = answer_by refusal (mended_at ps)
 
 -- there is a codeword within distance two of the bits w: its 53 information bits are written, and the places told at
 -- which it differs from w
@@ -69,15 +69,15 @@ pub record Corrected (w before : List ℕ) (answer : Decoded) (after : List ℕ)
   pub answers : answer ≡ decoded ACCEPTED (places 0 word w)
   pub leaves : after ≡ written (take 53 word) before
 
--- a call with the number no is refused
-pub record Refuses (no : ℕ) (before : List ℕ) (answer : Decoded) (after : List ℕ) : Type 0 where
+-- a call is refused with the refusal no
+pub record Refuses (no : Option Refusal) (before : List ℕ) (answer : Decoded) (after : List ℕ) : Type 0 where
   pub answers : answer ≡ decoded no []
   pub leaves : after ≡ before
 
 -- the answer to 67 bits, with room for 53: that of a codeword within distance two, or NO WORD and there is none
-abbrev pub Answers : ℕ → List ℕ → List ℕ → Decoded → List ℕ → Type 0
-Answers zero w before answer after = Corrected w before answer after ⊎ (Lone w × Refuses NO_WORD before answer after)
-Answers (suc k) w before answer after = Refuses (suc k) before answer after
+abbrev pub Answers : Option Refusal → List ℕ → List ℕ → Decoded → List ℕ → Type 0
+Answers None w before answer after = Corrected w before answer after ⊎ (Lone w × Refuses NO_WORD before answer after)
+Answers (Some r) w before answer after = Refuses (Some r) before answer after
 
 -- the promise: of the bits w, what stood in the lent output, the answer, and what is left in the output
 abbrev pub Decodes : List ℕ → List ℕ → Decoded → List ℕ → Type 0
@@ -85,7 +85,7 @@ Decodes w before answer after = Answers (lent_no 67 53 w before) w before answer
 
 -- ---- the decoder as a function: its answer is the one that meets the promise
 
-abbrev pub decode_no : List ℕ → List ℕ → ℕ
+abbrev pub decode_no : List ℕ → List ℕ → Option Refusal
 decode_no w out =
     first_of
     (not (eqb (length w) 67) gives LENGTH

@@ -2,11 +2,12 @@
 -- the remainder, the search for the locator's roots, and the bits with the places flipped. No public promise cites
 -- this file.
 use Rattle.std.specs.Prelude.{◌≡◌, List, [], ◌∷◌, ℕ, zero, suc, ◌-◌, ◌^◌, ◌≤◌, ◌<◌, length, set, get_or}
+use Rattle.std.specs.Prelude.{Option, Some, None}
 use Rattle.std.specs.Int.Bits.{bit_xor}
 use Rattle.bch.specs.Code.{step, Codeword, Lone}
 use Rattle.bch.specs.Field.{times_x, times_x2, mul, syndrome1, syndrome3}
 use Rattle.bch.specs.declared.search.Found.{Found}
-use Rattle.bch.specs.declared.search.Found.TheVariants.{Clean, One, Two, NoWord}
+use Rattle.bch.specs.declared.search.Found.TheVariants.{Clean, One, Two}
 
 -- ---- patterns of changed places
 
@@ -61,17 +62,22 @@ pub record Passed (c p q d p' q' d' : ℕ) : Type 0 where
   pub second : q' ≡ repeated times_x (d' - d) q
   pub none : (k : ℕ) → k < d' - d → value_at p q k ≡ c → ⊥
 
--- the same, and the degree d' is a root, or past the 67 places
+-- the same, and the degree d' is a root, of one of the 67 places
 pub record NextRoot (c p q d p' q' d' : ℕ) : Type 0 where
   pub passed : Passed c p q d p' q' d'
-  pub root : d' < 67 → bit_xor p' q' ≡ c
+  pub below : d' < 67
+  pub root : bit_xor p' q' ≡ c
+
+-- from the terms p and q at the degree d on, no degree of the 67 is a root
+abbrev pub NoRoot : ℕ → ℕ → ℕ → ℕ → Type 0
+NoRoot c p q d = (k : ℕ) → k < 67 - d → value_at p q k ≡ c → ⊥
 
 -- the search's promise: at most two rising places that add up to the remainder s, or there are none
-abbrev pub Locates : ℕ → Found → Type 0
-Locates s Clean = s ≡ 0
-Locates s (One i) = Rising 0 (i ∷ []) × (added (i ∷ []) ≡ s)
-Locates s (Two i j) = Rising 0 (i ∷ j ∷ []) × (added (i ∷ j ∷ []) ≡ s)
-Locates s NoWord = NoPattern s
+abbrev pub Locates : ℕ → Option Found → Type 0
+Locates s (Some Clean) = s ≡ 0
+Locates s (Some (One i)) = Rising 0 (i ∷ []) × (added (i ∷ []) ≡ s)
+Locates s (Some (Two i j)) = Rising 0 (i ∷ j ∷ []) × (added (i ∷ j ∷ []) ≡ s)
+Locates s None = NoPattern s
 
 -- ---- the bits with the places flipped
 
@@ -84,14 +90,12 @@ abbrev pub mended : List ℕ → Found → List ℕ
 mended w Clean = w
 mended w (One i) = flip w i
 mended w (Two i j) = flip (flip w i) j
-mended w NoWord = w
 
 -- the places that an answer of the search names
 abbrev pub named : Found → List ℕ
 named Clean = []
 named (One i) = i ∷ []
 named (Two i j) = i ∷ j ∷ []
-named NoWord = []
 
 -- the slow decoder has moved on from the place k to r, past no change that makes a codeword of w
 pub record PastChanges (w : List ℕ) (k r : ℕ) : Type 0 where
@@ -99,15 +103,15 @@ pub record PastChanges (w : List ℕ) (k r : ℕ) : Type 0 where
   pub within : r ≤ 67
   pub none : (i : ℕ) → k ≤ i → i < r → Codeword (flip w i) → ⊥
 
--- the same, and a change of the place r makes one, or r is past the 67 places
-pub record NextChange (w : List ℕ) (k r : ℕ) : Type 0 where
-  pub past : PastChanges w k r
-  pub makes : r < 67 → Codeword (flip w r)
+-- the first place from k on whose change makes one, or none of the 67
+abbrev pub NextChange : List ℕ → ℕ → Option ℕ → Type 0
+NextChange w k None = PastChanges w k 67
+NextChange w k (Some r) = PastChanges w k r × (r < 67) × Codeword (flip w r)
 
 -- what is promised of the bits: at most two rising places below 67 whose change makes a codeword of w, or there is
 -- none within distance two
-abbrev pub Changes : List ℕ → Found → Type 0
-Changes w Clean = Codeword w
-Changes w (One i) = (i < 67) × Codeword (flip w i)
-Changes w (Two i j) = (i < j) × (j < 67) × Codeword (flip (flip w i) j)
-Changes w NoWord = Lone w
+abbrev pub Changes : List ℕ → Option Found → Type 0
+Changes w (Some Clean) = Codeword w
+Changes w (Some (One i)) = (i < 67) × Codeword (flip w i)
+Changes w (Some (Two i j)) = (i < j) × (j < 67) × Codeword (flip (flip w i) j)
+Changes w None = Lone w

@@ -1,19 +1,18 @@
 -- The rule over the words handed to a new desk, refused ones among them: what is answered at a word, exactly when, and
 -- what is gathered behind it. Assumes nothing.
 use mathlib.Core.Path.{◌≡◌, refl, sym, ap, ◌∙◌, subst}
-use mathlib.Core.Logic.{◌↔◌, ◌⊎◌, inl, inr, ⊎_elim}
+use mathlib.Core.Logic.{◌↔◌, ◌⊎◌}
 use mathlib.Core.Bool.{Bool, true, false, cond, false≢true, and-eq-true_iff}
 use mathlib.Core.List.{List, [], ◌∷◌}
-use Prim.Native.Nat.{ℕ, zero, suc, ◌+◌, ◌*◌, ◌<◌}
+use Prim.Native.Nat.{ℕ, suc, ◌+◌, ◌*◌, ◌<◌}
 use native.Mathlib.Omega.{arith}
 use lib.Dec.{eqb}
 use borrow.Author.Tests.{eqb-true, eqb-false, eq-eqb}
-use Rattle.ground.specs.Refusal.{OUT_OF_STEP, MISMATCH}
+use Rattle.std.specs.Prelude.{Some, None, Ok, Err}
+use Rattle.ground.specs.declared.Refusal.TheVariants.{OutOfStep, Mismatch}
 use Rattle.tps.specs.declared.word.TpsWord.{TpsWord}
 use Rattle.desk.specs.declared.Desk.{Desk}
 use Rattle.desk.specs.declared.SuperFrame.{SuperFrame}
-use Rattle.desk.specs.declared.Answer.{Answer}
-use Rattle.desk.specs.declared.Answer.TheVariants.{Gathered, Complete, Refused}
 use Rattle.desk.specs.declared.Taken.{Taken}
 use Rattle.desk.specs.Desk.{parameters_of, are_same, fresh, started, afresh, wanted_by, agrees, gone_on, super_frame_by, accepted, went_on, refused, take_answer}
 use Rattle.desk.specs.SuperFrame.{Same, Completes, Last, Gathers}
@@ -25,65 +24,31 @@ use Rattle.desk.proofs.SameParameters.{same-parameters, same-holds}
 
 -- the last word has the number of those before it
 last-number : (n : ℕ) (w : TpsWord) (ws : List TpsWord) → Last (suc n) (w ∷ ws) → w.frame_number ≡ n
-last-number zero w ws l = l.number
-last-number (suc zero) w [] l = absurd l
-last-number (suc zero) w (a ∷ ws) l = l.number
-last-number (suc (suc zero)) w [] l = absurd l
-last-number (suc (suc zero)) w (b ∷ []) l = absurd l
-last-number (suc (suc zero)) w (b ∷ a ∷ ws) l = l.number
-last-number (suc (suc (suc zero))) w [] l = absurd l
-last-number (suc (suc (suc zero))) w (c ∷ []) l = absurd l
-last-number (suc (suc (suc zero))) w (c ∷ b ∷ []) l = absurd l
-last-number (suc (suc (suc zero))) w (c ∷ b ∷ a ∷ ws) l = l.number
-last-number (suc (suc (suc (suc n)))) w ws l = absurd l
+last-number n w ws l = grind arith
 
 -- and those before it are gathered
 last_gathers : (n : ℕ) (w : TpsWord) (ws : List TpsWord) → 0 < n → Last (suc n) (w ∷ ws) → Gathers n ws
-last_gathers zero w ws h l = absurd (omega arith)
-last_gathers (suc zero) w [] h l = absurd l
-last_gathers (suc zero) w (a ∷ ws) h l = l.begun
-last_gathers (suc (suc zero)) w [] h l = absurd l
-last_gathers (suc (suc zero)) w (b ∷ []) h l = absurd l
-last_gathers (suc (suc zero)) w (b ∷ a ∷ ws) h l = l.begun
-last_gathers (suc (suc (suc zero))) w [] h l = absurd l
-last_gathers (suc (suc (suc zero))) w (c ∷ []) h l = absurd l
-last_gathers (suc (suc (suc zero))) w (c ∷ b ∷ []) h l = absurd l
-last_gathers (suc (suc (suc zero))) w (c ∷ b ∷ a ∷ ws) h l = l.begun
-last_gathers (suc (suc (suc (suc n)))) w ws h l = absurd l
+last_gathers n w ws h l = grind arith
 
 gathers_last : (n : ℕ) (ws : List TpsWord) → Gathers (suc n) ws → Last (suc n) ws
-gathers_last zero ws g = g
-gathers_last (suc zero) ws g = g
-gathers_last (suc (suc zero)) ws g = g
-gathers_last (suc (suc (suc n))) ws g = absurd g
+gathers_last n ws g = grind arith
 
 none_gathers : (n : ℕ) (ws : List TpsWord) → Gathers 0 ws → Gathers (suc n) ws → ⊥
-none_gathers zero ws g h = g.0 h
-none_gathers (suc zero) ws g h = g.1 h
-none_gathers (suc (suc zero)) ws g h = g.2 h
-none_gathers (suc (suc (suc n))) ws g h = h
+none_gathers n ws g h = grind arith
 
 empty_gathers : (n : ℕ) → Gathers (suc n) [] → ⊥
-empty_gathers zero g = g
-empty_gathers (suc zero) g = g
-empty_gathers (suc (suc zero)) g = g
-empty_gathers (suc (suc (suc n))) g = g
+empty_gathers n g = grind arith
 
 -- a list gathers one number of words
 pub gathers_once : (m n : ℕ) (ws : List TpsWord) → Gathers m ws → Gathers n ws → m ≡ n
-gathers_once zero zero ws g h = refl
-gathers_once zero (suc n) ws g h = absurd (none_gathers n ws g h)
-gathers_once (suc m) zero ws g h = absurd (none_gathers m ws h g)
-gathers_once (suc m) (suc n) [] g h = absurd (empty_gathers m g)
-gathers_once (suc m) (suc n) (w ∷ ws) g h =
-    ap suc (sym (last-number m w ws (gathers_last m (w ∷ ws) g)) ∙ last-number n w ws (gathers_last n (w ∷ ws) h))
+gathers_once m n ws g h = grind (arith, last-number, gathers_last)
 
 -- ---- one word more
 
 -- the three ways that a word can go, said over the list
 data Outcome (ws : List TpsWord) (d : Desk) (w : TpsWord) : Type 0 where
-  out : take_answer d w ≡ refused OUT_OF_STEP w → (Gathers w.frame_number ws → ⊥) → Outcome ws d w
-  apart : take_answer d w ≡ refused MISMATCH w → Gathers w.frame_number ws → (Last (suc w.frame_number) (w ∷ ws) → ⊥)
+  out : take_answer d w ≡ refused OutOfStep w → (Gathers w.frame_number ws → ⊥) → Outcome ws d w
+  apart : take_answer d w ≡ refused Mismatch w → Gathers w.frame_number ws → (Last (suc w.frame_number) (w ∷ ws) → ⊥)
       → Outcome ws d w
   on : take_answer d w ≡ went_on w.frame_number d w → Gathers w.frame_number ws → Last (suc w.frame_number) (w ∷ ws)
       → Outcome ws d w
@@ -111,11 +76,7 @@ module _ (ws : List TpsWord) (d : Desk) (w : TpsWord) (k : ℕ) (wants : wanted_
 -- what agreeing with the words held says
 went : {ws : List TpsWord} {d : Desk} → Holds ws d → (w : TpsWord) → Outcome ws d w
 went (nothing {ws = ws} g) w = outcome ws fresh w 0 refl g (λ e. (λ h. record { number = e }, λ l. refl))
-went (one {ws = ws} {a = a} f) w =
-    outcome (a ∷ ws) (started a) w 1 refl f (λ e. (
-      λ h. record { begun = f; number = e; same = (same-holds (parameters_of a) (parameters_of w)).0 h },
-      λ l. (same-holds (parameters_of a) (parameters_of w)).1 l.same,
-    ))
+went (one {ws = ws} {a = a} f) w = outcome (a ∷ ws) (started a) w 1 refl f (λ e. (λ h. grind (arith, same-holds), λ l. grind (arith, same-holds)))
 went (two {ws = ws} {a = a} {b = b} s) w =
     let cell = and-eq-true_iff (are_same (parameters_of a) (parameters_of w)) (eqb a.cell_id w.cell_id) in
     outcome (b ∷ a ∷ ws) (gone_on 1 (started a) b) w 2 refl s (λ e. (
@@ -149,10 +110,8 @@ module _ (w : TpsWord) (ws : List TpsWord) (no_more : (w.frame_number ≡ 0 → 
   not_last h n l = no_more h (subst (λ (m : ℕ). Last (suc m) (w ∷ ws)) (sym (last-number n w ws l)) l)
 
   afresh-by : (s : Bool) → eqb w.frame_number 0 ≡ s → Holds (w ∷ ws) (cond s (started w) fresh)
-  afresh-by true e = one (record { number = eqb-true w.frame_number 0 e })
-  afresh-by false e =
-      let h = eqb-false w.frame_number 0 e in
-      nothing (not_last h 0, not_last h 1, not_last h 2)
+  afresh-by true e = one (grind arith)
+  afresh-by false e = nothing (grind (arith, not_last))
 
   afresh-holds : Holds (w ∷ ws) (afresh w)
   afresh-holds = afresh-by (eqb w.frame_number 0) refl
@@ -208,49 +167,27 @@ gathers_wanted ws = by-held (desk_holds ws)
 
 -- one super-frame is complete, and says one thing
 completes_once : (ws : List TpsWord) (s t : SuperFrame) → Completes ws s → Completes ws t → s ≡ t
-completes_once [] s t x y = absurd x
-completes_once (d ∷ []) s t x y = absurd x
-completes_once (d ∷ c ∷ []) s t x y = absurd x
-completes_once (d ∷ c ∷ b ∷ []) s t x y = absurd x
-completes_once (d ∷ c ∷ b ∷ a ∷ ws) s t x y = x.1 ∙ sym y.1
+completes_once ws s t x y = grind arith
 
 completes_last : (ws : List TpsWord) (s : SuperFrame) → Completes ws s → Last 4 ws
-completes_last [] s x = x
-completes_last (d ∷ []) s x = x
-completes_last (d ∷ c ∷ []) s x = x
-completes_last (d ∷ c ∷ b ∷ []) s x = x
-completes_last (d ∷ c ∷ b ∷ a ∷ ws) s x = x.0
+completes_last ws s x = grind arith
 
 -- the parameters of the last word are those of the first
 same-frame : (id : ℕ) (a w : TpsWord) → Same a w
     → ◌≡◌ {A = SuperFrame} (record { cell_id = id; constellation = w.constellation; code_rate_hp = w.code_rate_hp; guard = w.guard })
     (record { cell_id = id; constellation = a.constellation; code_rate_hp = a.code_rate_hp; guard = a.guard })
-same-frame id a w s = let e = (same-parameters a w).0 s in rw (e.0, e.1, e.2) refl
+same-frame id a w s = grind (arith, same-parameters)
 
 completes_held : {ws : List TpsWord} {d : Desk} → Holds ws d → (w : TpsWord) → Last 4 (w ∷ ws) → Completes (w ∷ ws) (super_frame_by d w)
-completes_held (nothing {ws = ws} g) w l = absurd (none_gathers 2 ws g (last_gathers 3 w ws (omega arith) l))
-completes_held (one {ws = ws} {a = a} f) w l = absurd (omega (arith, gathers_once 1 3 (a ∷ ws) f (last_gathers 3 w (a ∷ ws) (omega arith) l)))
-completes_held (two {ws = ws} {a = a} {b = b} s) w l =
-    absurd (omega (arith, gathers_once 2 3 (b ∷ a ∷ ws) s (last_gathers 3 w (b ∷ a ∷ ws) (omega arith) l)))
+completes_held (nothing {ws = ws} g) w l = grind (arith, none_gathers, last_gathers)
+completes_held (one {ws = ws} {a = a} f) w l = grind (arith, gathers_once, last_gathers)
+completes_held (two {ws = ws} {a = a} {b = b} s) w l = grind (arith, gathers_once, last_gathers)
 completes_held (three {a = a} {b = b} t) w l = (l, same-frame (a.cell_id * 256 + b.cell_id) a w l.same)
 
 -- ---- exactly when
 
--- an answer's case as a number
-abbrev kind : Answer → ℕ
-kind Gathered = 0
-kind (Complete s) = 1
-kind (Refused k) = k
-
-complete-one : {s t : SuperFrame} → ◌≡◌ {A = Answer} (Complete s) (Complete t) → s ≡ t
-complete-one e = cc
-
 last-fewer : (n : ℕ) (ws : List TpsWord) → Last (suc n) ws → (n < 3) ⊎ (n ≡ 3)
-last-fewer zero ws l = inl (omega arith)
-last-fewer (suc zero) ws l = inl (omega arith)
-last-fewer (suc (suc zero)) ws l = inl (omega arith)
-last-fewer (suc (suc (suc zero))) ws l = inr refl
-last-fewer (suc (suc (suc (suc n)))) ws l = absurd l
+last-fewer n ws l = grind arith
 
 module _ (ws : List TpsWord) (w : TpsWord) where
   abbrev d : Desk
@@ -262,88 +199,51 @@ module _ (ws : List TpsWord) (w : TpsWord) where
   abbrev says : {t : Taken} → take_answer d w ≡ t → answer_at ws w ≡ t.answer
   says e = ap (λ (t : Taken). t.answer) e
 
-  -- two answers are of one case
-  one_case : {a b : Answer} → answer_at ws w ≡ a → answer_at ws w ≡ b → kind a ≡ kind b
-  one_case p q = ap kind (sym p ∙ q)
-
   -- the first three words of a super-frame, and the fourth
-  fewer : take_answer d w ≡ went_on n d w → n < 3 → answer_at ws w ≡ Gathered
-  fewer e h = says e ∙ accepted-fewer d w n h
+  fewer : take_answer d w ≡ went_on n d w → n < 3 → answer_at ws w ≡ Ok None
+  fewer e h = says e ∙ ap Ok (accepted-fewer d w n h)
 
-  fourth : take_answer d w ≡ went_on n d w → n ≡ 3 → answer_at ws w ≡ Complete (super_frame_by d w)
-  fourth e h = says e ∙ ap (λ (m : ℕ). accepted m d w) h
+  fourth : take_answer d w ≡ went_on n d w → n ≡ 3 → answer_at ws w ≡ Ok (Some (super_frame_by d w))
+  fourth e h = says e ∙ ap (λ (m : ℕ). Ok (accepted m d w)) h
 
   fourth_completes : n ≡ 3 → Last (suc n) (w ∷ ws) → Completes (w ∷ ws) (super_frame_by d w)
   fourth_completes h l = completes_held (desk_holds ws) w (subst (λ (m : ℕ). Last (suc m) (w ∷ ws)) h l)
 
   -- complete, exactly where the word and the three before it are a super-frame, and with what these say
-  pub complete_exactly : (s : SuperFrame) → (answer_at ws w ≡ Complete s) ↔ Completes (w ∷ ws) s
-  complete_exactly s = (there (went (desk_holds ws) w), back (went (desk_holds ws) w))
+  pub complete_exactly : (s : SuperFrame) → (answer_at ws w ≡ Ok (Some s)) ↔ Completes (w ∷ ws) s
+  complete_exactly s = by (went (desk_holds ws) w)
     where
-      there : Outcome ws d w → answer_at ws w ≡ Complete s → Completes (w ∷ ws) s
-      there (out e g) p = absurd (omega (arith, one_case p (says e)))
-      there (apart e g m) p = absurd (omega (arith, one_case p (says e)))
-      there (on e g l) p =
-          ⊎_elim (λ h. absurd (omega (arith, one_case p (fewer e h))))
-          (λ h. subst (λ (t : SuperFrame). Completes (w ∷ ws) t) (complete-one (sym (fourth e h) ∙ p)) (fourth_completes h l)) (last-fewer n (w ∷ ws) l)
+      four : Completes (w ∷ ws) s → Last 4 (w ∷ ws)
+      four = completes_last (w ∷ ws) s
 
-      back : Outcome ws d w → Completes (w ∷ ws) s → answer_at ws w ≡ Complete s
-      back o c = by-outcome o
-        where
-          four : Last 4 (w ∷ ws)
-          four = completes_last (w ∷ ws) s c
-
-          h : n ≡ 3
-          h = last-number 3 w ws four
-
-          by-outcome : Outcome ws d w → answer_at ws w ≡ Complete s
-          by-outcome (out e g) = absurd (g (subst (λ (m : ℕ). Gathers m ws) (sym h) (last_gathers 3 w ws (omega arith) four)))
-          by-outcome (apart e g m) = absurd (m (subst (λ (m : ℕ). Last (suc m) (w ∷ ws)) (sym h) four))
-          by-outcome (on e g l) = fourth e h ∙ ap Complete (completes_once (w ∷ ws) (super_frame_by d w) s (fourth_completes h l) c)
+      by : Outcome ws d w → (answer_at ws w ≡ Ok (Some s)) ↔ Completes (w ∷ ws) s
+      by (out e g) = grind (arith, says e, four, last-number, last_gathers)
+      by (apart e g m) = grind (arith, says e, four, last-number)
+      by (on e g l) = grind (arith, four, last-number, fewer e, fourth e, fourth_completes, completes_once, last-fewer n (w ∷ ws) l)
 
   -- gathered, exactly where the number is below 3, so many words are gathered before it, and it goes on with them
-  pub gathered_exactly : (answer_at ws w ≡ Gathered) ↔ ((n < 3) × Gathers n ws × Last (suc n) (w ∷ ws))
-  gathered_exactly = (there (went (desk_holds ws) w), λ q. back q (went (desk_holds ws) w))
+  pub gathered_exactly : (answer_at ws w ≡ Ok None) ↔ ((n < 3) × Gathers n ws × Last (suc n) (w ∷ ws))
+  gathered_exactly = by (went (desk_holds ws) w)
     where
-      there : Outcome ws d w → answer_at ws w ≡ Gathered → (n < 3) × Gathers n ws × Last (suc n) (w ∷ ws)
-      there (out e g) p = absurd (omega (arith, one_case p (says e)))
-      there (apart e g m) p = absurd (omega (arith, one_case p (says e)))
-      there (on e g l) p =
-          ⊎_elim (λ h. (h, g, l)) (λ h. absurd (omega (arith, one_case p (fourth e h)))) (last-fewer n (w ∷ ws) l)
-
-      back : (n < 3) × Gathers n ws × Last (suc n) (w ∷ ws) → Outcome ws d w → answer_at ws w ≡ Gathered
-      back q (out e g) = absurd (g q.1)
-      back q (apart e g m) = absurd (m q.2)
-      back q (on e g l) = fewer e q.0
-
-  not-refused : (k : ℕ) → 1 < k → take_answer d w ≡ went_on n d w → Last (suc n) (w ∷ ws) → answer_at ws w ≡ Refused k → ⊥
-  not-refused k i e l p =
-      ⊎_elim (λ h. omega (arith, one_case p (fewer e h))) (λ h. omega (arith, one_case p (fourth e h))) (last-fewer n (w ∷ ws) l)
+      by : Outcome ws d w → (answer_at ws w ≡ Ok None) ↔ ((n < 3) × Gathers n ws × Last (suc n) (w ∷ ws))
+      by (out e g) = grind (arith, says e)
+      by (apart e g m) = grind (arith, says e)
+      by (on e g l) = grind (arith, fewer e, fourth e, last-fewer n (w ∷ ws) l)
 
   -- OUT OF STEP, exactly where its number isn't that of the words gathered before it
-  pub out_of_step_exactly : (answer_at ws w ≡ Refused OUT_OF_STEP) ↔ (Gathers n ws → ⊥)
-  out_of_step_exactly = (there (went (desk_holds ws) w), λ q. back q (went (desk_holds ws) w))
+  pub out_of_step_exactly : (answer_at ws w ≡ Err OutOfStep) ↔ (Gathers n ws → ⊥)
+  out_of_step_exactly = by (went (desk_holds ws) w)
     where
-      there : Outcome ws d w → answer_at ws w ≡ Refused OUT_OF_STEP → Gathers n ws → ⊥
-      there (out e g) p = g
-      there (apart e g m) p = absurd (omega (arith, one_case p (says e)))
-      there (on e g l) p = absurd (not-refused OUT_OF_STEP (omega arith) e l p)
-
-      back : (Gathers n ws → ⊥) → Outcome ws d w → answer_at ws w ≡ Refused OUT_OF_STEP
-      back q (out e g) = says e
-      back q (apart e g m) = absurd (q g)
-      back q (on e g l) = absurd (q g)
+      by : Outcome ws d w → (answer_at ws w ≡ Err OutOfStep) ↔ (Gathers n ws → ⊥)
+      by (out e g) = grind (arith, says e)
+      by (apart e g m) = grind (arith, says e)
+      by (on e g l) = grind (arith, says e)
 
   -- MISMATCH, exactly where it is that number and the word doesn't go on with them
-  pub mismatch_exactly : (answer_at ws w ≡ Refused MISMATCH) ↔ (Gathers n ws × (Last (suc n) (w ∷ ws) → ⊥))
-  mismatch_exactly = (there (went (desk_holds ws) w), λ q. back q (went (desk_holds ws) w))
+  pub mismatch_exactly : (answer_at ws w ≡ Err Mismatch) ↔ (Gathers n ws × (Last (suc n) (w ∷ ws) → ⊥))
+  mismatch_exactly = by (went (desk_holds ws) w)
     where
-      there : Outcome ws d w → answer_at ws w ≡ Refused MISMATCH → Gathers n ws × (Last (suc n) (w ∷ ws) → ⊥)
-      there (out e g) p = absurd (omega (arith, one_case p (says e)))
-      there (apart e g m) p = (g, m)
-      there (on e g l) p = absurd (not-refused MISMATCH (omega arith) e l p)
-
-      back : Gathers n ws × (Last (suc n) (w ∷ ws) → ⊥) → Outcome ws d w → answer_at ws w ≡ Refused MISMATCH
-      back q (out e g) = absurd (g q.0)
-      back q (apart e g m) = says e
-      back q (on e g l) = absurd (q.1 l)
+      by : Outcome ws d w → (answer_at ws w ≡ Err Mismatch) ↔ (Gathers n ws × (Last (suc n) (w ∷ ws) → ⊥))
+      by (out e g) = grind (arith, says e)
+      by (apart e g m) = grind (arith, says e)
+      by (on e g l) = grind (arith, says e)

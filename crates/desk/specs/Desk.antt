@@ -1,15 +1,15 @@
 -- Document 02, E3; EN 300 744, 4.6.2.4 and 4.6.2.10: what the desk answers to a word, and what it has gathered then.
 -- That this is the rule over the words handed in is said in SuperFrame.antt, without a desk.
 use Rattle.std.specs.Prelude.{Bool, true, not, ◌&&◌, cond, List, [], ◌∷◌, ℕ, zero, suc, ◌+◌, ◌*◌, eqb, leb}
-use Rattle.ground.specs.Refusal.{ACCEPTED, OUT_OF_STEP, MISMATCH, ◌gives◌, first_of}
-use Rattle.ground.specs.Answer.{kept}
+use Rattle.std.specs.Prelude.{Option, Some, None, Result, Ok, Err}
+use Rattle.ground.specs.declared.Refusal.{Refusal}
+use Rattle.ground.specs.Refusal.{OUT_OF_STEP, MISMATCH, ◌gives◌, first_of, code}
+use Rattle.ground.specs.Answer.{answer_by, kept}
 use Rattle.tps.specs.declared.word.TpsWord.{TpsWord}
 use Rattle.tps.specs.Codes.{codes_of}
 use Rattle.desk.specs.declared.Parameters.{Parameters}
 use Rattle.desk.specs.declared.Desk.{Desk}
 use Rattle.desk.specs.declared.SuperFrame.{SuperFrame}
-use Rattle.desk.specs.declared.Answer.{Answer}
-use Rattle.desk.specs.declared.Answer.TheVariants.{Gathered, Complete, Refused}
 use Rattle.desk.specs.declared.Taken.{Taken}
 
 -- ---- what the words of a super-frame share
@@ -48,6 +48,10 @@ afresh w = cond (eqb w.frame_number 0) (started w) fresh
 abbrev pub wanted_by : Desk → ℕ
 wanted_by d = cond (leb d.wanted 3) d.wanted 0
 
+-- the desk that wants it, and holds the same
+abbrev pub as_read : Desk → Desk
+as_read d = record { wanted = wanted_by d; high = d.high; low = d.low; parameters = d.parameters }
+
 -- a word with the number that is wanted agrees with what is gathered: nothing is compared at 0; the parameters are at
 -- 1, the high byte too at 2, and the low byte too at 3
 abbrev pub agrees : ℕ → Desk → TpsWord → Bool
@@ -75,14 +79,18 @@ super_frame_by d w =
       guard = w.guard;
     }
 
--- the answer to a word that isn't refused
-abbrev pub accepted : ℕ → Desk → TpsWord → Answer
-accepted zero d w = Gathered
-accepted (suc zero) d w = Gathered
-accepted (suc (suc zero)) d w = Gathered
-accepted (suc (suc (suc n))) d w = Complete (super_frame_by d w)
+-- an answer: the super-frame that a word completes, or none where it is gathered; or the refusal
+abbrev pub Answer : Type 0
+Answer = Result (Option SuperFrame) Refusal
 
-abbrev pub take_no : Desk → TpsWord → ℕ
+-- what a word that isn't refused completes
+abbrev pub accepted : ℕ → Desk → TpsWord → Option SuperFrame
+accepted zero d w = None
+accepted (suc zero) d w = None
+accepted (suc (suc zero)) d w = None
+accepted (suc (suc (suc n))) d w = Some (super_frame_by d w)
+
+abbrev pub take_no : Desk → TpsWord → Option Refusal
 take_no d w =
     first_of
     (not (eqb w.frame_number (wanted_by d)) gives OUT_OF_STEP
@@ -92,19 +100,20 @@ take_no d w =
 -- the answer and the desk after it, where the word isn't refused, and where it is: unlike document 01's, these
 -- refusals change the state
 abbrev pub went_on : ℕ → Desk → TpsWord → Taken
-went_on n d w = record { answer = accepted n d w; desk = gone_on n d w }
+went_on n d w = record { answer = Ok (accepted n d w); desk = gone_on n d w }
 
-abbrev pub refused : ℕ → TpsWord → Taken
-refused k w = record { answer = Refused k; desk = afresh w }
+abbrev pub refused : Refusal → TpsWord → Taken
+refused r w = record { answer = Err r; desk = afresh w }
 
 unfoldable pub take_answer : Desk → TpsWord → Taken
-take_answer d w = kept (take_no d w) (went_on (wanted_by d) d w) (refused (take_no d w) w)
+take_answer d w =
+    record {
+      answer = answer_by (take_no d w) (accepted (wanted_by d) d w);
+      desk = kept (take_no d w) (gone_on (wanted_by d) d w) (afresh w);
+    }
 
 -- document 02's number, and what is complete, for each case of an answer: no two answers say the same
 abbrev pub answer_says : Answer → ℕ × List (List SuperFrame)
-answer_says Gathered = (ACCEPTED, [] ∷ [])
-answer_says (Complete s) = (ACCEPTED, (s ∷ []) ∷ [])
-answer_says (Refused k) = (k, [])
-
-abbrev pub number_of : Answer → ℕ
-number_of a = (answer_says a).0
+answer_says (Ok None) = (0, [] ∷ [])
+answer_says (Ok (Some s)) = (0, (s ∷ []) ∷ [])
+answer_says (Err r) = (code (Some r), [])

@@ -4,8 +4,7 @@ use Rattle.std.specs.Prelude.{◌≡◌, List, [], ◌∷◌, ℕ, zero, suc, �
 use Rattle.tps.specs.declared.word.TpsWord.{TpsWord}
 use Rattle.desk.specs.declared.Desk.{Desk}
 use Rattle.desk.specs.declared.SuperFrame.{SuperFrame}
-use Rattle.desk.specs.declared.Answer.{Answer}
-use Rattle.desk.specs.Desk.{parameters_of, fresh, started, gone_on, take_answer}
+use Rattle.desk.specs.Desk.{Answer, parameters_of, fresh, started, gone_on, take_answer}
 
 -- the same parameters: constellation, rate and guard (`same-parameters` says that they are these)
 abbrev pub Same : TpsWord → TpsWord → Type 0

@@ -3,10 +3,10 @@
 #![tactic(auto)]
 
 ghost use Rattle.std.specs.Prelude.{◌≡◌};
-ghost use Rattle.desk.specs.Desk.{fresh, parameters_of, are_same, wanted_by, started, afresh, agrees};
-ghost use Rattle.desk.specs.Desk.{gone_on, super_frame_by, refused, take_answer};
+ghost use Rattle.desk.specs.Desk.{fresh, parameters_of, as_read, started, afresh, agrees};
+ghost use Rattle.desk.specs.Desk.{gone_on, accepted, refused, take_answer};
 
-use ground::ConstellationOrder;
+use ground::{ConstellationOrder, Refusal};
 use tps::{GuardInterval, PunctureRate, TpsWord};
 
 // The number of a super-frame's last word.
@@ -14,7 +14,7 @@ const LAST: u8 = 3;
 
 // What the words of a super-frame share, by EN 300 744's codes.
 #[repr(C)]
-#[derive(Clone, Copy)]
+#[derive(Clone, Copy, Debug, Default, PartialEq, Eq)]
 pub struct Parameters {
     pub constellation: u8,
     pub code_rate_hp: u8,
@@ -25,7 +25,7 @@ pub struct Parameters {
 // the parameters of the words before it. With 0 wanted none of these is read, and with 1 no low byte. Of a desk that
 // is made by hand a number above 3 is read as 0, and parameters that no word has agree with none.
 #[repr(C)]
-#[derive(Clone, Copy)]
+#[derive(Clone, Copy, Debug, Default, PartialEq, Eq)]
 pub struct Desk {
     pub wanted: u8,
     pub high: u8,
@@ -33,7 +33,8 @@ pub struct Desk {
     pub parameters: Parameters,
 }
 
-// A super-frame by its sixteen bits of cell id and what its words share.
+// A super-frame by its sixteen bits of cell id and what its words share. The three parameters stay fields of their own
+// here, since `super_frame_by`, `complete_exactly` and the clauses over C (`SaysTaken`) name them.
 #[derive(Clone, Copy)]
 pub struct SuperFrame {
     pub cell_id: u16,
@@ -42,45 +43,23 @@ pub struct SuperFrame {
     pub guard: GuardInterval,
 }
 
-// What the desk answers to a word: it is gathered, or completes a super-frame, or is refused by this number.
-#[derive(Clone, Copy)]
-pub enum Answer {
-    Gathered,
-    Complete(SuperFrame),
-    Refused(u8),
-}
-
-// The answer to a word, and the desk after it.
+// The answer to a word, which is the super-frame that it completes, or none where it is gathered; and the desk after
+// it, which two refusals change; the clauses over C (`SaysTaken`) name its fields.
 #[derive(Clone, Copy)]
 pub struct Taken {
-    pub answer: Answer,
+    pub answer: Result<Option<SuperFrame>, Refusal>,
     pub desk: Desk,
 }
 
-impl Parameters {
-    // The parameters of a word.
-    fn of(word: TpsWord) -> Self
-        ensures { result ≡ parameters_of word }
-    {
-        let codes = tps::inner::codes_of(word);
-        Self {
-            constellation: codes.constellation,
-            code_rate_hp: codes.rate,
-            guard: codes.guard,
-        }
-    }
+impl From<TpsWord> for Parameters {
+    ghost from_gives = { λ word parameters. parameters ≡ parameters_of word };
 
-    // Whether parameters are the same.
-    fn same(self, other: Parameters) -> bool
-        ensures { result ≡ are_same self other }
-    {
-        if self.constellation != other.constellation {
-            return false;
+    fn from(word: TpsWord) -> Parameters {
+        Parameters {
+            constellation: word.constellation as u8,
+            code_rate_hp: word.code_rate_hp as u8,
+            guard: word.guard as u8,
         }
-        if self.code_rate_hp != other.code_rate_hp {
-            return false;
-        }
-        self.guard == other.guard
     }
 }
 
@@ -88,12 +67,11 @@ impl Parameters {
 fn started(word: TpsWord) -> Desk
     ensures { result ≡ started word }
 {
-    let parameters = Parameters::of(word);
     Desk {
         wanted: 1,
         high: word.cell_id,
         low: 0,
-        parameters,
+        parameters: Parameters::from(word),
     }
 }
 
@@ -102,17 +80,18 @@ fn afresh(word: TpsWord) -> Desk
     ensures { result ≡ afresh word }
 {
     if word.frame_number == 0 {
-        return started(word);
+        started(word)
+    } else {
+        Desk::new()
     }
-    Desk::new()
 }
 
-// The answer to a word that is refused by a number, and the desk after it.
-fn refused(number: u8, word: TpsWord) -> Taken
-    ensures { result ≡ refused number word }
+// The answer to a word that is refused, and the desk after it.
+fn refused(refusal: Refusal, word: TpsWord) -> Taken
+    ensures { result ≡ refused refusal word }
 {
     Taken {
-        answer: Answer::Refused(number),
+        answer: Err(refusal),
         desk: afresh(word),
     }
 }
@@ -122,41 +101,32 @@ impl Desk {
     pub fn new() -> Self
         ensures { result ≡ fresh }
     {
-        let parameters = Parameters {
-            constellation: 0,
-            code_rate_hp: 0,
-            guard: 0,
-        };
-        Self {
-            wanted: 0,
-            high: 0,
-            low: 0,
-            parameters,
-        }
+        Self::default()
     }
 
-    // The number that is wanted, one above 3 counting as 0.
-    fn number_wanted(self) -> u8
-        ensures { result ≡ wanted_by self }
+    // The desk as it is read: a number above 3 that is wanted counts as 0. It stays a number and is no enum of what is
+    // gathered: a frame's number is one, and the C interface hands a desk over by its fields.
+    fn as_read(self) -> Desk
+        ensures { result ≡ as_read self }
     {
         if self.wanted <= LAST {
-            return self.wanted;
+            return self;
         }
-        0
+        Desk { wanted: 0, ..self }
     }
 
     // Whether a word agrees with what is gathered, where its number is the one wanted.
-    fn agrees(self, wanted: u8, word: TpsWord) -> bool
-        ensures { result ≡ agrees wanted self word }
+    fn agrees(self, word: TpsWord) -> bool
+        ensures { result ≡ agrees self.wanted self word }
     {
-        if wanted == 0 {
+        // The two tests return at once, since one match over all of them took a tenth longer a word.
+        if self.wanted == 0 {
             return true;
         }
-        let parameters = self.parameters;
-        if !parameters.same(Parameters::of(word)) {
+        if self.parameters != Parameters::from(word) {
             return false;
         }
-        match wanted {
+        match self.wanted {
             1 => true,
             2 => self.high == word.cell_id,
             _ => self.low == word.cell_id,
@@ -164,63 +134,54 @@ impl Desk {
     }
 
     // The desk with a word more, where its number is the one wanted and it agrees.
-    fn gone_on(self, wanted: u8, word: TpsWord) -> Desk
-        ensures { result ≡ gone_on wanted self word }
+    fn gone_on(self, word: TpsWord) -> Desk
+        ensures { result ≡ gone_on self.wanted self word }
     {
-        let parameters = self.parameters;
-        match wanted {
+        match self.wanted {
             0 => started(word),
             1 => Desk {
                 wanted: 2,
-                high: self.high,
                 low: word.cell_id,
-                parameters,
+                ..self
             },
             2 => Desk {
                 wanted: LAST,
-                high: self.high,
-                low: self.low,
-                parameters,
+                ..self
             },
             _ => Desk::new(),
         }
     }
 
-    // The super-frame that a word completes.
-    fn super_frame(self, word: TpsWord) -> SuperFrame
-        ensures { result ≡ super_frame_by self word }
+    // The super-frame that a word completes, where its number is the one wanted and it agrees: none before the last.
+    fn super_frame(self, word: TpsWord) -> Option<SuperFrame>
+        ensures { result ≡ accepted self.wanted self word }
     {
-        let constellation = word.constellation;
-        let code_rate_hp = word.code_rate_hp;
-        let guard = word.guard;
-        SuperFrame {
-            cell_id: self.high as u16 * 256 + self.low as u16,
-            constellation,
-            code_rate_hp,
-            guard,
+        if self.wanted < LAST {
+            return None;
         }
+        Some(SuperFrame {
+            cell_id: u16::from_be_bytes([self.high, self.low]),
+            constellation: word.constellation,
+            code_rate_hp: word.code_rate_hp,
+            guard: word.guard,
+        })
     }
 
     // Takes the next word that was read: it is gathered, completes a super-frame, or is refused (document 02, E3).
+    #[tactic(auto, unfolding(crate::specs::Desk::take_answer))]
     pub fn take(self, word: TpsWord) -> Taken
         ensures { result ≡ take_answer self word }
     {
-        let wanted = self.number_wanted();
-        if word.frame_number != wanted {
-            return refused(ground::OUT_OF_STEP, word);
+        let desk = self.as_read();
+        if word.frame_number != desk.wanted {
+            return refused(Refusal::OutOfStep, word);
         }
-        if !self.agrees(wanted, word) {
-            return refused(ground::MISMATCH, word);
-        }
-        if wanted == LAST {
-            return Taken {
-                answer: Answer::Complete(self.super_frame(word)),
-                desk: self.gone_on(wanted, word),
-            };
+        if !desk.agrees(word) {
+            return refused(Refusal::Mismatch, word);
         }
         Taken {
-            answer: Answer::Gathered,
-            desk: self.gone_on(wanted, word),
+            answer: Ok(desk.super_frame(word)),
+            desk: desk.gone_on(word),
         }
     }
 }

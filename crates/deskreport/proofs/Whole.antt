@@ -6,14 +6,14 @@ use Rattle.deskreport.specs.declared.inner.Reader.{Reader}
 use Rattle.deskreport.specs.Text.{heading}
 use Rattle.deskreport.specs.Telling.{start, teller}
 use Rattle.deskreport.specs.Report.{report}
-use Rattle.deskreport.specs.Stream.{fresh, line_of, feed_text, feed_reader, close_text}
+use Rattle.deskreport.specs.Stream.{fresh, feed_text, feed_reader, close_text}
 
 -- what the calls write for parts in turn, and at the input's end, where a reader s takes them
 abbrev pub written_for : Reader → List (List ℕ) → List ℕ
 written_for s [] = close_text s
 written_for s (p ∷ ps) = feed_text s p ++ written_for (feed_reader s p) ps
 
-tells : (s : Reader) (parts : List (List ℕ)) → written_for s parts ≡ tell_parts teller (line_of s) s.tally parts
+tells : (s : Reader) (parts : List (List ℕ)) → written_for s parts ≡ tell_parts teller s.line s.tally parts
 unfolding close_text
 tells s [] = refl
 tells s (p ∷ ps) = ap (λ (t : List ℕ). feed_text s p ++ t) (tells (feed_reader s p) ps)

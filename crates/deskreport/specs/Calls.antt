@@ -1,8 +1,8 @@
 -- Document 02, E3, and document 01, 'Refusal numbers': what the calls of the desk's report answer and leave. Each is
 -- OUTPUT SHORT where the lent output has less than the room for any text of its kind.
-use Rattle.std.specs.Prelude.{ℕ, ◌+◌, List, length}
+use Rattle.std.specs.Prelude.{ℕ, ◌+◌, List, length, Result}
+use Rattle.ground.specs.declared.Refusal.{Refusal}
 use Rattle.ground.specs.Answer.{counted, kept, fill_no, fill_answer, fill_leaves}
-use Rattle.ground.specs.declared.Counted.{Counted}
 use Rattle.report.specs.Calls.{line_room, part_room, feed_no}
 use Rattle.deskreport.specs.declared.inner.Reader.{Reader}
 use Rattle.deskreport.specs.declared.inner.Fed.{Fed}
@@ -11,7 +11,7 @@ use Rattle.deskreport.specs.Stream.{feed_text, feed_reader, close_text}
 
 -- ---- the heading
 
-abbrev pub heading_answer : List ℕ → Counted
+abbrev pub heading_answer : List ℕ → Result ℕ Refusal
 heading_answer out = fill_answer (length heading) out
 
 abbrev pub heading_leaves : List ℕ → List ℕ
@@ -37,7 +37,7 @@ closing_room = 90
 abbrev pub close_room : ℕ
 close_room = line_room + closing_room
 
-abbrev pub close_answer : Reader → List ℕ → Counted
+abbrev pub close_answer : Reader → List ℕ → Result ℕ Refusal
 close_answer s out = counted (fill_no close_room out) (length (close_text s))
 
 abbrev pub close_leaves : Reader → List ℕ → List ℕ

@@ -1,12 +1,10 @@
 -- Document 02, E3: how the desk's report is told. The word of a line is handed to the desk; a line that document 01's
 -- report refuses is refused here too, and isn't handed to it.
-use Rattle.std.specs.Prelude.{ℕ}
-use Rattle.tps.specs.declared.word.Unpacked.{Unpacked}
-use Rattle.tps.specs.declared.word.Unpacked.TheVariants as unpacked
+use Rattle.std.specs.Prelude.{ℕ, Some, None, Ok, Err}
+use Rattle.tps.specs.Packing.{Unpacked}
 use Rattle.desk.specs.declared.Desk.{Desk}
-use Rattle.desk.specs.declared.Answer.{Answer}
-use Rattle.desk.specs.declared.Answer.TheVariants.{Gathered, Complete, Refused}
 use Rattle.desk.specs.declared.Taken.{Taken}
+use Rattle.desk.specs.Desk.{Answer}
 use Rattle.desk.specs.Desk as desk
 use Rattle.report.specs.Telling.{Teller}
 use Rattle.report.specs.Stream.{plus}
@@ -15,19 +13,19 @@ use Rattle.deskreport.specs.Text.{answer_text, closing}
 
 -- what the desk says to a line's answer, and the desk then
 abbrev pub line_taken : Desk → Unpacked → Taken
-line_taken d (unpacked.Word w m) = desk.take_answer d w
-line_taken d (unpacked.Refused k) = record { answer = Refused k; desk = d }
+line_taken d (Ok m) = desk.take_answer d m.word
+line_taken d (Err r) = record { answer = Err r; desk = d }
 
 -- how many complete super-frames, and how many refusals, an answer is
 abbrev pub completions : Answer → ℕ
-completions Gathered = 0
-completions (Complete s) = 1
-completions (Refused k) = 0
+completions (Ok None) = 0
+completions (Ok (Some s)) = 1
+completions (Err r) = 0
 
 abbrev pub refusals : Answer → ℕ
-refusals Gathered = 0
-refusals (Complete s) = 0
-refusals (Refused k) = 1
+refusals (Ok None) = 0
+refusals (Ok (Some s)) = 0
+refusals (Err r) = 1
 
 -- before the first line
 abbrev pub start : Tally

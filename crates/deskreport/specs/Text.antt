@@ -1,9 +1,8 @@
 -- Document 02, E3: the texts of the desk's report, in the columns of document 01's report.
-use Rattle.std.specs.Prelude.{ℕ, ◌/◌, ◌%◌, List, [], ◌∷◌, ◌++◌}
-use Rattle.tps.specs.declared.word.Unpacked.TheVariants as unpacked
+use Rattle.std.specs.Prelude.{ℕ, ◌/◌, ◌%◌, List, [], ◌∷◌, ◌++◌, Some, None, Ok, Err}
+use Rattle.ground.specs.Refusal.{code_of}
 use Rattle.desk.specs.declared.SuperFrame.{SuperFrame}
-use Rattle.desk.specs.declared.Answer.{Answer}
-use Rattle.desk.specs.declared.Answer.TheVariants.{Gathered, Complete, Refused}
+use Rattle.desk.specs.Desk.{Answer}
 use Rattle.report.specs.Characters.{characters}
 use Rattle.report.specs.Text.{decimal, cell_text, points_text, rate_text, guard_text, row, line_text}
 use Rattle.deskreport.specs.declared.inner.Tally.{Tally}
@@ -28,9 +27,9 @@ frame_text n s =
 
 -- the text of an answer: none for a word that is gathered, and document 01's for a refusal
 abbrev pub answer_text : ℕ → Answer → List ℕ
-answer_text n Gathered = []
-answer_text n (Complete s) = frame_text n s
-answer_text n (Refused k) = line_text n (unpacked.Refused k)
+answer_text n (Ok None) = []
+answer_text n (Ok (Some s)) = frame_text n s
+answer_text n (Err r) = line_text n (Err (code_of r))
 
 -- the closing line: all lines, the complete super-frames, and the refusals
 unfoldable pub closing : Tally → List ℕ

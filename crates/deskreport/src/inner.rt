@@ -4,9 +4,10 @@ ghost use Rattle.deskreport.specs.Stream.{fresh};
 ghost use Rattle.deskreport.specs.Calls.{heading_answer, heading_leaves};
 ghost use Rattle.deskreport.specs.Calls.{feed_answer, feed_leaves, close_answer, close_leaves};
 
-use super::stream;
 use desk::Desk;
-use ground::Counted;
+use ground::Refusal;
+use report::inner::{OpenLine, Text, put_close, put_part};
+use tps::Decoder;
 
 // The heading's length in bytes.
 const HEADING_LEN: usize = 26;
@@ -17,7 +18,7 @@ const CLOSE_ROOM: usize = 150;
 
 // What is kept between lines: how many ended, how many completed a super-frame and how many were refused, by the
 // reading or by the desk, and the desk; behind 2^64 - 1 a count starts again.
-#[derive(Clone, Copy)]
+#[derive(Clone, Copy, Debug, Default, PartialEq, Eq)]
 pub struct Tally {
     pub lines: u64,
     pub complete: u64,
@@ -25,48 +26,47 @@ pub struct Tally {
     pub desk: Desk,
 }
 
-// What is held of the input so far: the open line's first 17 characters, how many it has, 18 where they are more, and
-// what is kept between lines.
+// What is held of the input so far: the line that is open, and what is kept of those before it.
 #[derive(Clone, Copy)]
 pub struct Reader {
-    pub held: [u8; 17],
-    pub count: usize,
+    pub line: OpenLine,
     pub tally: Tally,
 }
 
-// How many bytes of text were written, or the refusal, and the reader after the call.
+// How many bytes of text were written, or the refusal, and the reader after the call; `told-whole` names its fields.
 #[derive(Clone, Copy)]
 pub struct Fed {
-    pub answer: Counted,
+    pub answer: Result<usize, Refusal>,
     pub reader: Reader,
 }
 
-// Writes the heading.
-pub fn put_heading(out: &mut [u8]) -> Counted
+// Writes the heading. A function for this and report's would take all but one of its lines as an argument.
+pub fn put_heading(out: &mut [u8]) -> Result<usize, Refusal>
     ensures answer { result ≡ heading_answer out.old }
     ensures output { out.new ≡ heading_leaves out.old }
 {
     if out.len() < HEADING_LEN {
-        return Counted::Refused(ground::OUTPUT_SHORT);
+        return Err(Refusal::OutputShort);
     }
-    Counted::Count(report::inner::put(out, 0, b"line id points rate guard\n"))
+    let mut text = Text::new(out);
+    text.put(b"line id points rate guard\n");
+    Ok(text.len())
 }
 
+// The C interface hands report's Reader over by its fields, so that the two aren't one generic reader: the calls stand
+// here once more, and what they do in the same way is report's put_part and put_close.
 impl Reader {
     // A reader at the beginning of the input, with a new desk.
     pub fn new() -> Self
         ensures { result ≡ fresh }
     {
-        let tally = Tally {
-            lines: 0,
-            complete: 0,
-            refused: 0,
-            desk: Desk::new(),
-        };
-        Self {
+        let line = OpenLine {
             held: [0u8; 17],
             count: 0,
-            tally,
+        };
+        Self {
+            line,
+            tally: Tally::default(),
         }
     }
 
@@ -77,26 +77,30 @@ impl Reader {
     {
         if out.len() / LINE_ROOM < part.len() {
             return Fed {
-                answer: Counted::Refused(ground::OUTPUT_SHORT),
+                answer: Err(Refusal::OutputShort),
                 reader: self,
             };
         }
-        let end = stream::put_part(self, part, out);
-        let reader = end.reader;
+        let mut text = Text::new(out);
+        let mut tally = self.tally;
+        let line = put_part(Decoder::Fast, self.line, &mut tally, part, &mut text);
         Fed {
-            answer: Counted::Count(end.at),
-            reader,
+            answer: Ok(text.len()),
+            reader: Reader { line, tally },
         }
     }
 
     // Ends the input: writes the text of a line that is open there, and the closing line.
-    pub fn close(self, out: &mut [u8]) -> Counted
+    pub fn close(self, out: &mut [u8]) -> Result<usize, Refusal>
         ensures answer { result ≡ close_answer self out.old }
         ensures output { out.new ≡ close_leaves self out.old }
     {
         if out.len() < CLOSE_ROOM {
-            return Counted::Refused(ground::OUTPUT_SHORT);
+            return Err(Refusal::OutputShort);
         }
-        Counted::Count(stream::put_close(self, out))
+        let mut text = Text::new(out);
+        let mut tally = self.tally;
+        put_close(Decoder::Fast, self.line, &mut tally, &mut text);
+        Ok(text.len())
     }
 }

@@ -1,13 +1,13 @@
 -- A number's low bits in the opposite order: what stands above them doesn't count, the highest becomes the lowest, and
 -- twice is the number itself. Assumes nothing.
-use Prim.Native.Nat.{ℕ, zero, suc, ◌+◌, ◌-◌, ◌*◌, ◌/◌, ◌%◌, ◌^◌, ◌<◌, ◌≤◌}
-use native.Mathlib.Nat.{not-suc-le-zero, le_of_suc-le-suc, pow-suc, mul_assoc, mul_comm, add-mul, mul-le-mul_left}
+use Prim.Native.Nat.{ℕ, zero, suc, ◌+◌, ◌*◌, ◌/◌, ◌%◌, ◌^◌, ◌<◌, ◌≤◌}
+use native.Mathlib.Nat.{not-suc-le-zero, le_of_suc-le-suc, pow-suc, mul_assoc, mul_comm, add-mul, zero-add}
 use native.Mathlib.Omega.{arith}
 use mathlib.Core.Path.{◌≡◌, refl, sym, ap, ap₂, ◌∙◌}
 use lib.Arith.{digits_lt}
-use lib.Pow.{pow_pos}
 use lib.Bits.{block_half, block_odd}
 use Rattle.ground.proofs.Xor.{odd}
+use Rattle.std.specs.Int.{reverse_bits_onto}
 use Rattle.dispersal.specs.Inner.{mirror}
 
 pub mirror-lt : (n x : ℕ) → mirror n x < 2 ^ n
@@ -47,22 +47,16 @@ mirror-moves-one n t x =
     let b : t * 2 * 2 ^ n ≡ t * 2 ^ suc n = mul_assoc t 2 (2 ^ n) ∙ ap (λ (y : ℕ). t * y) (mul_comm 2 (2 ^ n) ∙ sym (pow-suc 2 n)) in
     omega arith
 
--- the loop that moves the bits over: while some are left there is room for one more, and a turn leaves the sum as it
--- was
-pub mirror-room : (left t x w : ℕ) → 0 < left → t * 2 ^ left + mirror left x ≡ mirror 15 w → t * 2 + x % 2 < 2 ^ 15
-mirror-room zero t x w h e = absurd (not-suc-le-zero h)
-mirror-room (suc n) t x w h e =
-    let b : ℕ = t * 2 + x % 2 in
-    let a : b * 1 ≤ b * 2 ^ n = mul-le-mul_left b (pow_pos n) in
-    omega (arith, mirror-moves-one n t x, mirror-lt 15 w)
+-- a number's low bits as the standard library reverses them, and fifteen of them that are moved up by one, of sixteen
+reversed_is_mirror : (n x t : ℕ) → reverse_bits_onto n x t ≡ t * 2 ^ n + mirror n x
+unfolding reverse_bits_onto mirror
+reversed_is_mirror zero x t = omega arith
+reversed_is_mirror (suc n) x t = reversed_is_mirror n (x / 2) (t * 2 + x % 2) ∙ mirror-moves-one n t x
 
-pub mirror-next : (left t x w : ℕ) → 0 < left → t * 2 ^ left + mirror left x ≡ w → (t * 2 + x % 2) * 2 ^ (left - 1) + mirror (left - 1) (x / 2) ≡ w
-mirror-next zero t x w h e = absurd (not-suc-le-zero h)
-mirror-next (suc n) t x w h e =
-    let d : suc n - 1 ≡ n = omega arith in
-    ap (λ (k : ℕ). (t * 2 + x % 2) * 2 ^ k + mirror k (x / 2)) d ∙ mirror-moves-one n t x ∙ e
-
-pub mirror_end : (left t x w : ℕ) → left ≤ 0 → t * 2 ^ left + mirror left x ≡ w → t ≡ w
+pub reversed_sixteen : (x : ℕ) → reverse_bits_onto 16 (x * 2) 0 ≡ mirror 15 x
 unfolding mirror
-mirror_end zero t x w h e = omega arith
-mirror_end (suc n) t x w h e = absurd (not-suc-le-zero h)
+reversed_sixteen x =
+    let low : x * 2 % 2 ≡ 0 = omega arith in
+    let high : x * 2 / 2 ≡ x = omega arith in
+    let moved : mirror 16 (x * 2) ≡ mirror 15 x = ap₂ (λ (a b : ℕ). a * 2 ^ 15 + mirror 15 b) low high ∙ zero-add (mirror 15 x) in
+    reversed_is_mirror 16 (x * 2) 0 ∙ zero-add (mirror 16 (x * 2)) ∙ moved

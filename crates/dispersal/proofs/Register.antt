@@ -1,6 +1,6 @@
 -- The register, step by step: it stays within its 15 bits, and the bits that leave at its low end are its own fifteen
 -- and then the outputs. Assumes nothing.
-use Prim.Native.Nat.{ℕ, zero, suc, ◌+◌, ◌*◌, ◌/◌, ◌%◌, ◌^◌, ◌<◌, ◌≤◌, ◌-◌}
+use Prim.Native.Nat.{ℕ, zero, suc, ◌+◌, ◌*◌, ◌/◌, ◌%◌, ◌^◌, ◌<◌, ◌≤◌}
 use native.Mathlib.Nat.{pow-suc, suc-add, zero-add, zero-mul, add-mul, mul_assoc, add_assoc}
 use native.Mathlib.Omega.{arith}
 use mathlib.Core.Path.{◌≡◌, refl, sym, ap, ap₂, ◌∙◌}
@@ -42,16 +42,10 @@ steps-step (suc n) r = steps-step n (step r)
 pub steps_byte : (a r : ℕ) → steps (8 * a) (steps 8 r) ≡ steps (8 * suc a) r
 steps_byte a r = steps_add (8 * a) 8 r ∙ ap (λ (n : ℕ). steps n r) (omega arith)
 
--- a step is taken while some are left
-pub steps_next : (left r q : ℕ) → 0 < left → steps left r ≡ q → steps (left - 1) (step r) ≡ q
+-- a step more
+pub steps_more : (n r : ℕ) → step (steps n r) ≡ steps (n + 1) r
 unfolding steps
-steps_next zero r q h e = absurd (omega arith)
-steps_next (suc n) r q h e = let d : suc n - 1 ≡ n = omega arith in ap (λ (k : ℕ). steps k (step r)) d ∙ e
-
-pub steps_end : (left r q : ℕ) → left ≤ 0 → steps left r ≡ q → r ≡ q
-unfolding steps
-steps_end zero r q h e = e
-steps_end (suc n) r q h e = absurd (omega arith)
+steps_more n r = steps_add 1 n r
 
 -- ---- the bits that leave at bit 0, the first one highest
 

@@ -80,7 +80,7 @@ module _ (s t : List ℕ) (h : 120 ≤ length s) (e : t ≡ stream (length (take
   part_is_stream : t ≡ stream 120 start
   part_is_stream = e ∙ ap (λ (n : ℕ). stream n start) (length-take-le 120 s h)
 
-  pub stream-part-length : length (t ++ drop 120 s) ≡ length s
+  stream-part-length : length (t ++ drop 120 s) ≡ length s
   stream-part-length =
       let a : length t ≡ 120 = ap length part_is_stream ∙ stream-length 120 start in simp (length-append, length-drop) (omega arith)
 

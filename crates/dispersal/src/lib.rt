@@ -8,39 +8,34 @@ ghost use Rattle.dispersal.specs.Whitener.{register_of, feed_in_place_answer, fe
 ghost use Rattle.dispersal.specs.Whitener.{feed_leaves};
 ghost use Rattle.dispersal.specs.Inner.{mirror};
 
-use ground::Counted;
+use ground::Refusal;
 
 pub mod inner;
 
 // The register's start, 100101010000000.
 pub const DVB_T_PRBS_INIT: u16 = 0x4A80;
 
-// The whitener: its register stands in the low 15 bits.
+// The whitener: its register is the low 15 bits.
+#[repr(C)]
 #[derive(Clone, Copy)]
 pub struct DvbTEnergyDispersal {
     pub reg: u16,
 }
 
 // What whitening into a lent output gives: the whitener behind it, and the bytes written or the refusal.
+// A struct of this crate's own, as in tps, report and desk, since the clauses over C (`SaysWhitened`) name its fields.
 #[derive(Clone, Copy)]
 pub struct Fed {
     pub whitener: DvbTEnergyDispersal,
-    pub answer: Counted,
+    pub answer: Result<usize, Refusal>,
 }
 
-// The low 15 bits in the opposite order.
+// The low 15 bits in the opposite order: moved up by one, since of sixteen reversed bits that are moved down the
+// compiler knows that they are small, and makes the whitening loop a tenth slower (measured).
 fn mirrored(bits: u16) -> u16
     ensures { result ≡ mirror 15 (bits % 2 ^ 15) }
 {
-    let mut from = bits % 0x8000;
-    let mut to: u16 = 0;
-    let mut left: u16 = 15;
-    while left > 0 {
-        to = to * 2 + from % 2;
-        from = from / 2;
-        left -= 1;
-    }
-    to
+    (bits % 0x8000 * 2).reverse_bits()
 }
 
 // The register one step on.
@@ -81,10 +76,8 @@ impl DvbTEnergyDispersal {
         ensures { result.reg ≡ steps 8 (register_of self) }
     {
         let mut reg = self.reg % 0x8000;
-        let mut left: u16 = 8;
-        while left > 0 {
+        for _i in 0..8u8 {
             reg = step(reg);
-            left -= 1;
         }
         DvbTEnergyDispersal { reg }
     }
@@ -95,26 +88,14 @@ impl DvbTEnergyDispersal {
         ensures bytes { bytes.new ≡ feed_in_place_leaves self bytes.old }
     {
         let mut ahead = mirrored(self.reg);
-        let mut i = 0;
-        while i < bytes.len() {
+        for byte in bytes.iter_mut() {
             let mask = mask_of(ahead);
-            bytes[i] = bytes[i] ^ (mask as u8);
+            *byte ^= mask as u8;
             ahead = ahead % 0x80 * 0x100 + mask;
-            i += 1;
         }
         DvbTEnergyDispersal {
             reg: mirrored(ahead),
         }
-    }
-
-    // Whitens bytes into a slice of the same length.
-    fn feed_into(self, bytes: &[u8], out: &mut [u8]) -> DvbTEnergyDispersal
-        requires { length bytes.now ≡ length out.old }
-        ensures answer { result ≡ feed_in_place_answer self bytes.now }
-        ensures output { out.new ≡ feed_in_place_leaves self bytes.now }
-    {
-        ground::inner::copy(bytes, out);
-        self.feed_in_place(out)
     }
 
     // Whitens bytes into a lent output; OUTPUT SHORT where it is shorter than they are.
@@ -126,13 +107,14 @@ impl DvbTEnergyDispersal {
         if out.len() < n {
             return Fed {
                 whitener: self,
-                answer: Counted::Refused(ground::OUTPUT_SHORT),
+                answer: Err(Refusal::OutputShort),
             };
         }
-        let whitener = self.feed_into(bytes, &mut out[..n]);
+        let front = &mut out[..n];
+        front.copy_from_slice(bytes);
         Fed {
-            whitener,
-            answer: Counted::Count(n),
+            whitener: self.feed_in_place(front),
+            answer: Ok(n),
         }
     }
 }

@@ -8,8 +8,7 @@ use Rattle.carriers.specs.Count.{bin_of}
 use Rattle.carriers.specs.Sequence.{wk_from}
 use Rattle.carriers.specs.Carriers.{scattered}
 use Rattle.bch.specs.Code.{parity}
-use Rattle.bch.specs.Promise.{decoded, Decodes}
-use Rattle.bch.specs.declared.Decoded.{Decoded}
+use Rattle.bch.specs.Promise.{Decoded, decoded, Decodes}
 use Rattle.gray.specs.Levels.{order_of, levels}
 use Rattle.gray.specs.Mapping.{index}
 use Rattle.ts.specs.Packets.{packetized}

@@ -1,24 +1,24 @@
--- The distances of a coordinate to the levels of an axis: of one kind, in the code's order, and all equal for a NaN,
+-- The distances of a coordinate to the levels of an axis: of one kind, as std takes them, and all equal for a NaN,
 -- an infinity and every finite f32 of magnitude 2 ^ 26 or more, of either sign, which so give index 0.
 -- Assumes nothing.
 use Prim.Native.Nat.{ℕ, ◌<◌}
 use native.Mathlib.Nat.{le_refl}
 use mathlib.Core.Path.{◌≡◌, refl, ◌∙◌, subst}
-use mathlib.Core.Bool.{true, Bool, false, not}
+use mathlib.Core.Bool.{Bool, false, not}
 use lib.IntN.{ℤ, pos}
 use lib.ListN.{length, length-map}
-use lib.Ieee.{Float, binary32, nan, inf, fin, lt, sub, neg, add, is_nan, fits}
+use lib.Ieee.{Float, binary32, nan, inf, fin, sub, add, is_nan, fits}
 use lib.Dec.{T}
+use Rattle.std.specs.Float.{float_with_sign}
 use Rattle.ground.specs.declared.ConstellationOrder.{ConstellationOrder}
 use Rattle.ground.proofs.Mapped.{map_at}
 use Rattle.gray.specs.Levels.{levels, at, coordinate}
-use Rattle.gray.specs.Inner.{distance_at, apart_at}
+use Rattle.gray.specs.Inner.{distance_at}
 use Rattle.gray.specs.Hard.{distances, First, abs, distance, entry}
 use Rattle.gray.proofs.Ieee.Differences.{difference-kind}
 use Rattle.gray.proofs.Ieee.First.{equal_first}
 use Rattle.gray.proofs.Ieee.Large.{Large, inf_distance, large_distance, large_is_whole}
 use Rattle.gray.proofs.Ieee.Magnitudes.{kind}
-use Rattle.gray.proofs.Ieee.Opposites.{larger_order}
 use Rattle.gray.proofs.Levels.{finite_at, near-at}
 
 pub distances-length : (o : ConstellationOrder) (x : Float) → length (distances o x) ≡ length (levels o)
@@ -33,17 +33,12 @@ distances-entry o x j h = map_at (λ (l : ℤ). distance x (coordinate o l)) (le
 pub distance-kind : (o : ConstellationOrder) (x : Float) (i : ℕ) → T (kind (not (is_nan x)) (distance_at o x i))
 distance-kind o x i = difference-kind x (at o i) (finite_at o i)
 
-pub apart_order : (o : ConstellationOrder) (x : Float) (i j : ℕ) → lt (apart_at o x i) (apart_at o x j) ≡ lt (distance_at o x i) (distance_at o x j)
-apart_order o x i j = larger_order (sub binary32 x (at o i)) (sub binary32 x (at o j))
-
--- what the two branches hand over
-pub apart_opposite : (o : ConstellationOrder) (x : Float) (i : ℕ) (p : Float) → p ≡ at o i → lt (sub binary32 x p) (neg (sub binary32 x p)) ≡ true
-    → neg (sub binary32 x p) ≡ apart_at o x i
-apart_opposite o x i p e t = rw (← e, t)
-
-pub apart-difference : (o : ConstellationOrder) (x : Float) (i : ℕ) (p : Float) → p ≡ at o i → lt (sub binary32 x p) (neg (sub binary32 x p)) ≡ false
-    → sub binary32 x p ≡ apart_at o x i
-apart-difference o x i p e t = rw (← e, t)
+-- std's magnitude is ours
+pub abs-is : (y : Float) → float_with_sign false y ≡ abs y
+unfolding float_with_sign abs
+abs-is nan = refl
+abs-is (inf s) = refl
+abs-is (fin s m e) = refl
 
 -- ---- a coordinate whose distances are all equal gives index 0
 pub equal_distances_first : (o : ConstellationOrder) (x v : Float) → ((j : ℕ) → j < length (levels o) → distance x (at o j) ≡ v) → (i : ℕ) → First (distances o x) i → i ≡ 0

@@ -6,7 +6,6 @@ pub mod Closest
 pub mod Rounding
 pub mod Magnitudes
 pub mod Differences
-pub mod Opposites
 pub mod Large
 pub mod Least
 pub mod First

@@ -3,7 +3,7 @@
 use Prim.Native.Nat.{ℕ, zero, suc, ◌+◌, ◌-◌, ◌*◌, ◌/◌, ◌%◌, ◌^◌, ◌≤◌, ◌<◌}
 use native.Mathlib.Nat.{not-suc-le-zero, le_of_suc-le-suc}
 use native.Mathlib.Omega.{arith}
-use mathlib.Core.Path.{◌≡◌, refl, sym, ap, ◌∙◌, subst}
+use mathlib.Core.Path.{◌≡◌, refl, sym, ap, ◌∙◌}
 use mathlib.Core.List.{List}
 use lib.ListN.{length, get_or, set}
 use Rattle.ground.specs.Digits.{value_of}
@@ -11,18 +11,10 @@ use Rattle.ground.proofs.Front.{front, front-next}
 use Rattle.gray.specs.Mapping.{every_other}
 use Rattle.gray.specs.Hard.{bits_in_turn}
 
-abbrev pub Indexed : List ℕ → ℕ → ℕ → ℕ → Type 0
-Indexed l a k r = (r ≡ value_of 0 (every_other k a l)) × (r < 2 ^ k)
-
-pub index_1 : (l : List ℕ) (a k x : ℕ) → k ≡ 1 → (x ≡ get_or l a 0) × (x < 2) → Indexed l a k x
-index_1 l a k x e p = subst (λ (n : ℕ). Indexed l a n x) (sym e) (omega arith, omega arith)
-
-pub index_2 : (l : List ℕ) (a k x y : ℕ) → k ≡ 2 → (x ≡ get_or l a 0) × (x < 2) → (y ≡ get_or l (a + 2) 0) × (y < 2) → Indexed l a k (2 * x + y)
-index_2 l a k x y e p q = subst (λ (n : ℕ). Indexed l a n (2 * x + y)) (sym e) (omega arith, omega arith)
-
-pub index_3 : (l : List ℕ) (a k x y z : ℕ) → k ≡ 3 → (x ≡ get_or l a 0) × (x < 2) → (y ≡ get_or l (a + 2) 0) × (y < 2) → (z ≡ get_or l (a + 2 + 2) 0) × (z < 2)
-    → Indexed l a k (2 * (2 * x + y) + z)
-index_3 l a k x y z e p q r = subst (λ (n : ℕ). Indexed l a n (2 * (2 * x + y) + z)) (sym e) (omega arith, omega arith)
+-- one bit more is read
+pub every_other_next : (k s a j : ℕ) (l : List ℕ) → j ≡ a + 2 * k → value_of s (every_other (suc k) a l) ≡ 2 * value_of s (every_other k a l) + get_or l j 0
+every_other_next zero s a j l e = let e' : j ≡ a = omega arith in rw e' (omega arith)
+every_other_next (suc k) s a j l e = every_other_next k (s * 2 + get_or l a 0) (a + 2) j l (omega arith)
 
 -- ---- bits in turn
 

@@ -1,7 +1,7 @@
 -- The two terms of a soft value are the least squared distances, for every coordinate, and no other f32 is; a
 -- coordinate that is a NaN or infinite, or whose squares all overflow, as those of every finite f32 from 2 ^ 64 on,
 -- gives a NaN. Assumes nothing.
-use Prim.Native.Nat.{ℕ, ◌<◌}
+use Prim.Native.Nat.{ℕ, zero, suc, ◌<◌}
 use native.Mathlib.Omega.{arith}
 use native.Mathlib.Nat.{le_trans}
 use mathlib.Core.Path.{◌≡◌, refl, ap, ◌∙◌, ap₂}
@@ -14,12 +14,12 @@ use lib.Pow.{pow_mono}
 use Rattle.ground.specs.declared.ConstellationOrder.{ConstellationOrder}
 use Rattle.gray.specs.Levels.{levels, axis_bits, at}
 use Rattle.gray.specs.Soft.{soft, square, squares, least, Least}
-use Rattle.gray.specs.Inner.{least_in_turn}
+use Rattle.gray.specs.Inner.{least_in_turn, with_bit}
 use Rattle.gray.proofs.Ieee.Differences.{square_of_abs}
 use Rattle.gray.proofs.Ieee.Large.{Large, inf_square, large_distance, large_is_whole, large_square}
 use Rattle.gray.proofs.Ieee.Least.{in_turn_is_least, least_is_least, least-unique, same-least, some-least}
 use Rattle.gray.proofs.Levels.{finite_at, near-at}
-use Rattle.gray.proofs.Squares.{some-squares, squares-all, squares_fit, squares-kind}
+use Rattle.gray.proofs.Squares.{some-squares, by_pairs, squares_by_pairs, squares-all, squares_fit, squares-kind}
 
 module _ (o : ConstellationOrder) (x : Float) where
   some_term : (s b : ℕ) → 0 < length (squares o s b x) → Least (squares o s b x) (least (squares o s b x))
@@ -42,9 +42,14 @@ module _ (o : ConstellationOrder) (x : Float) where
   in_turn : (s b : ℕ) → 0 < length (squares o s b x) → least_in_turn (squares o s b x) ≡ least (squares o s b x)
   in_turn s b h = in_turn_is_least (not (is_nan x)) (squares o s b x) h (squares-kind o x s b) (squares_fit o x s b)
 
-  pub soft-from : (s : ℕ) → s < axis_bits o → (a b : Float) → a ≡ least_in_turn (squares o s 1 x) → b ≡ least_in_turn (squares o s 0 x) → sub binary32 a b ≡ soft o s x
-  unfolding soft
-  soft-from s h a b p q = ap₂ (sub binary32) (p ∙ in_turn s 1 (some-squares o x s h).0) (q ∙ in_turn s 0 (some-squares o x s h).1)
+  -- the least of the squares to the levels whose bit at place s is b, as the code takes it
+  pub least_by_code : (s b : ℕ) (m : Float) → s < axis_bits o → b < 2 → m ≡ by_pairs o (λ (j : ℕ). square x (at o (with_bit j s b))) → m ≡ least (squares o s b x)
+  least_by_code s b m h k e = e ∙ squares_by_pairs o x s b h k ∙ in_turn s b (some b k)
+    where
+      some : (b : ℕ) → b < 2 → 0 < length (squares o s b x)
+      some zero k = (some-squares o x s h).1
+      some (suc zero) k = (some-squares o x s h).0
+      some (suc (suc b)) k = absurd (omega arith)
 
 soft_of_same : (o : ConstellationOrder) (s : ℕ) (x v : Float) → s < axis_bits o → ((j : ℕ) → j < length (levels o) → square x (at o j) ≡ v) → soft o s x ≡ sub binary32 v v
 unfolding soft

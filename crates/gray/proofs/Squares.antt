@@ -3,7 +3,7 @@
 use Prim.Native.Nat.{ℕ, zero, suc, ◌^◌, ◌<◌, ◌/◌, ◌%◌, suc-le-suc}
 use native.Mathlib.Omega.{arith}
 use native.Mathlib.Nat.{zero-lt-suc, not-suc-le-zero, le_of_suc-le-suc}
-use mathlib.Core.Path.{◌≡◌, refl, sym, ◌∙◌, subst, ap₂}
+use mathlib.Core.Path.{◌≡◌, refl, sym, subst}
 use mathlib.Core.Bool.{true, Bool, false, not, cond}
 use mathlib.Core.List.{List, [], ◌∷◌}
 use lib.IntN.{ℤ, pos}
@@ -17,7 +17,7 @@ use Rattle.ground.proofs.Mapped.{map_at}
 use Rattle.gray.specs.Levels.{levels, axis_bits, at, coordinate}
 use Rattle.gray.specs.Hard.{entry}
 use Rattle.gray.specs.Soft.{square, squares, having}
-use Rattle.gray.specs.Inner.{lesser, least_in_turn}
+use Rattle.gray.specs.Inner.{lesser, least_in_turn, with_bit}
 use Rattle.gray.proofs.Distances.{distance-kind}
 use Rattle.gray.proofs.Ieee.Differences.{square-kind}
 use Rattle.gray.proofs.Ieee.Least.{lesser-assoc, lesser-kind}
@@ -94,24 +94,44 @@ module _ (o : ConstellationOrder) (x : Float) where
   abbrev sq : ℕ → Float
   sq i = square x (at o i)
 
-  pub least_of_one : (i : ℕ) → sq i ≡ least_in_turn (sq i ∷ [])
-  unfolding least_in_turn
-  least_of_one i = refl
-
-  pub least_of_two : (i j : ℕ) → lesser (sq i) (sq j) ≡ least_in_turn (sq i ∷ sq j ∷ [])
-  unfolding least_in_turn
-  least_of_two i j = refl
-
-  pub least_by_pairs : (i j k l : ℕ) → lesser (lesser (sq i) (sq j)) (lesser (sq k) (sq l)) ≡ least_in_turn (sq i ∷ sq j ∷ sq k ∷ sq l ∷ [])
+  least_by_pairs : (i j k l : ℕ) → lesser (lesser (sq i) (sq j)) (lesser (sq k) (sq l)) ≡ least_in_turn (sq i ∷ sq j ∷ sq k ∷ sq l ∷ [])
   unfolding least_in_turn
   least_by_pairs i j k l =
       let t = not (is_nan x) in
       lesser-assoc t (sq i) (sq j) (lesser (sq k) (sq l)) (squared_kind o x i) (squared_kind o x j) (lesser-kind t (sq k) (sq l) (squared_kind o x k) (squared_kind o x l))
 
-  -- the least of four squares, as the code takes it
-  pub least_of_four : (i j k l : ℕ) (a b c d m : Float) → m ≡ lesser (lesser a b) (lesser c d) → a ≡ sq i → b ≡ sq j → c ≡ sq k → d ≡ sq l
-      → m ≡ least_in_turn (sq i ∷ sq j ∷ sq k ∷ sq l ∷ [])
-  least_of_four i j k l a b c d m e p q r s =
-      e
-      ∙ ap₂ lesser (ap₂ lesser p q) (ap₂ lesser r s)
-      ∙ least_by_pairs i j k l
+-- the least of as many numbers as half the levels, as the code takes it
+abbrev pub by_pairs : ConstellationOrder → (ℕ → Float) → Float
+by_pairs Qpsk f = f 0
+by_pairs Qam16 f = lesser (f 0) (f 1)
+by_pairs Qam64 f = lesser (lesser (f 0) (f 1)) (lesser (f 2) (f 3))
+
+module _ (o : ConstellationOrder) (f : ℕ → Float) where
+  pub by-one : (m : Float) → o ≡ Qpsk → m ≡ f 0 → m ≡ by_pairs o f
+  by-one m e h = rw e h
+
+  pub by_two : (a b m : Float) → o ≡ Qam16 → m ≡ lesser a b → a ≡ f 0 → b ≡ f 1 → m ≡ by_pairs o f
+  by_two a b m e h p q = rw e (cc)
+
+  pub by_four : (a b c d m : Float) → o ≡ Qam64 → m ≡ lesser (lesser a b) (lesser c d) → a ≡ f 0 → b ≡ f 1 → c ≡ f 2 → d ≡ f 3 → m ≡ by_pairs o f
+  by_four a b c d m e h p q r s = rw e (cc)
+
+-- and of the squares to the levels whose bit at place s is b
+pub squares_by_pairs : (o : ConstellationOrder) (x : Float) (s b : ℕ) → s < axis_bits o → b < 2 → by_pairs o (λ (j : ℕ). square x (at o (with_bit j s b))) ≡ least_in_turn (squares o s b x)
+unfolding squares least_in_turn
+squares_by_pairs Qpsk x zero zero h k = refl
+squares_by_pairs Qpsk x zero (suc zero) h k = refl
+squares_by_pairs Qpsk x (suc s) b h k = absurd (omega arith)
+squares_by_pairs Qam16 x zero zero h k = refl
+squares_by_pairs Qam16 x zero (suc zero) h k = refl
+squares_by_pairs Qam16 x (suc zero) zero h k = refl
+squares_by_pairs Qam16 x (suc zero) (suc zero) h k = refl
+squares_by_pairs Qam16 x (suc (suc s)) b h k = absurd (omega arith)
+squares_by_pairs Qam64 x zero zero h k = least_by_pairs Qam64 x 0 2 4 6
+squares_by_pairs Qam64 x zero (suc zero) h k = least_by_pairs Qam64 x 1 3 5 7
+squares_by_pairs Qam64 x (suc zero) zero h k = least_by_pairs Qam64 x 0 1 4 5
+squares_by_pairs Qam64 x (suc zero) (suc zero) h k = least_by_pairs Qam64 x 2 3 6 7
+squares_by_pairs Qam64 x (suc (suc zero)) zero h k = least_by_pairs Qam64 x 0 1 2 3
+squares_by_pairs Qam64 x (suc (suc zero)) (suc zero) h k = least_by_pairs Qam64 x 4 5 6 7
+squares_by_pairs Qam64 x (suc (suc (suc s))) b h k = absurd (omega arith)
+squares_by_pairs o x s (suc (suc b)) h k = absurd (omega arith)

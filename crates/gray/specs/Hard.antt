@@ -1,10 +1,10 @@
 -- Document 01, 'Gray mapping': hard demapping takes the first index with the least f32 distance on each axis, and
 -- writes its bits. Another group size is LENGTH; then an output that is shorter than the group is OUTPUT SHORT.
-use Rattle.std.specs.Prelude.{ℕ, ◌<◌, false, not, ◌≡◌, List, [], ◌∷◌, map, ℤ, T, Float, length, get_or}
+use Rattle.std.specs.Prelude.{ℕ, ◌<◌, false, not, ◌≡◌, List, [], ◌∷◌, map, ℤ, T, Float, length, get_or, Option, Result}
 use Rattle.std.specs.Float.{nan, inf, fin, binary32}
 use Rattle.std.specs.Float.Ieee.{sub, lt}
 use Rattle.ground.specs.declared.Cell.{Cell}
-use Rattle.ground.specs.declared.Counted.{Counted}
+use Rattle.ground.specs.declared.Refusal.{Refusal}
 use Rattle.ground.specs.Answer.{counted, kept, written, short}
 use Rattle.ground.specs.Refusal.{LENGTH, OUTPUT_SHORT, ◌gives◌, first_of}
 use Rattle.ground.specs.Digits.{digits_of}
@@ -55,12 +55,12 @@ pub record Wrote (o : ConstellationOrder) (sym : Cell) (old new : List ℕ) : Ty
   pub q_first : First (distances o sym.im) q
   pub output : new ≡ written (bits_of o i q) old
 
--- ---- demapping a cell to v bits in a lent output: its number, the bits written, and the output, which is written
+-- ---- demapping a cell to v bits in a lent output: its refusal, the bits written, and the output, which is written
 -- where the call is accepted, else unchanged
-abbrev pub demap_no : ℕ → List ℕ → ℕ
+abbrev pub demap_no : ℕ → List ℕ → Option Refusal
 demap_no v out = first_of (not (is_size v) gives LENGTH ∷ short v out gives OUTPUT_SHORT ∷ [])
 
-abbrev pub demap_answer : ℕ → List ℕ → Counted
+abbrev pub demap_answer : ℕ → List ℕ → Result ℕ Refusal
 demap_answer v out = counted (demap_no v out) v
 
 abbrev pub Demapped : Cell → ℕ → List ℕ → List ℕ → Type 0

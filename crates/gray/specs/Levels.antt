@@ -1,14 +1,20 @@
 -- Document 01, 'Gray mapping'; EN 300 744, section 4.3.5 and figure 9a: the levels of an axis, the scales and the
 -- coordinates. Numbers are IEEE binary32, and each operation rounds once.
-use Rattle.std.specs.Prelude.{ℕ, Bool, ◌||◌, cond, List, [], ◌∷◌, ℤ, pos, negsuc, eqb, get_or, Float}
+use Rattle.std.specs.Prelude.{ℕ, Bool, not, ◌||◌, cond, List, [], ◌∷◌, ℤ, pos, negsuc, eqb, get_or, Float, Option}
 use Rattle.std.specs.Float.{binary32}
 use Rattle.std.specs.Float.Ieee.{of_bits, of_int, mul}
+use Rattle.ground.specs.Refusal.{LENGTH, ◌gives◌, first_of}
+use Rattle.ground.specs.declared.Refusal.{Refusal}
 use Rattle.ground.specs.declared.ConstellationOrder.{ConstellationOrder}
 use Rattle.ground.specs.declared.ConstellationOrder.TheVariants.{Qpsk, Qam16, Qam64}
 
 -- a bit group has 2, 4 or 6 bits
 abbrev pub is_size : ℕ → Bool
 is_size v = eqb v 2 || (eqb v 4 || eqb v 6)
+
+-- and another size is refused
+abbrev pub size_no : ℕ → Option Refusal
+size_no v = first_of (not (is_size v) gives LENGTH ∷ [])
 
 -- the constellation of a group size
 abbrev pub order_of : ℕ → ConstellationOrder

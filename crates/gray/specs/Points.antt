@@ -1,18 +1,13 @@
 -- Document 01, 'Gray mapping': over all 84 exact points hard demapping returns the bits, and every soft value is
 -- positive for 0 and negative for 1.
-use Rattle.std.specs.Prelude.{ℕ, ◌≤◌, Bool, true, false, ◌&&◌, cond, ◌≡◌, List, [], ◌∷◌, T, eqb, Float, length}
+use Rattle.std.specs.Prelude.{ℕ, ◌≤◌, Bool, true, false, ◌&&◌, cond, ◌≡◌, List, [], ◌∷◌, T, eqb, Float, length, Ok}
 use Rattle.std.specs.Float.Ieee.{lt}
-use Rattle.ground.specs.declared.Cell.{Cell}
 use Rattle.ground.specs.Answer.{written}
 use Rattle.ground.specs.Cells.{plus_zero}
 use Rattle.ground.specs.Refusal.{ACCEPTED}
-use Rattle.gray.specs.declared.Mapped.TheVariants.{Point}
-use Rattle.gray.specs.Mapping.{map_answer}
+use Rattle.gray.specs.Mapping.{cell_of, map_answer}
 use Rattle.gray.specs.Hard.{demap_no, Demapped}
 use Rattle.gray.specs.Soft.{soft_answer, soft_values_of}
-
-abbrev pub cell_of : Float → Float → Cell
-cell_of x y = record { re = x; im = y }
 
 -- a soft value is positive for the bit 0 and negative for the bit 1
 abbrev pub sign_right : ℕ → Float → Bool
@@ -30,7 +25,7 @@ signs_right (b ∷ r) (v ∷ s) = sign_right b v && signs_right r s
 pub record PointRight (bits : List ℕ) : Type 0 where
   pub x : Float
   pub y : Float
-  pub point : map_answer bits ≡ Point x y
+  pub point : map_answer bits ≡ Ok (cell_of x y)
   pub hard : (old new : List ℕ) → length bits ≤ length old → Demapped (cell_of x y) (length bits) old new
       → (demap_no (length bits) old ≡ ACCEPTED) × (new ≡ written bits old)
   pub signs : T (signs_right bits (soft_values_of (soft_answer (cell_of x y) (length bits))))

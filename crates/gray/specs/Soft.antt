@@ -1,17 +1,17 @@
 -- Document 01, 'Gray mapping': the soft value of a bit is (least squared distance to a level whose bit is 1) minus
 -- (the same for 0), in f32, one rounding an operation. Another group size is LENGTH.
 use Rattle.std.specs.Prelude.{ℕ, zero, suc, ◌/◌, ◌%◌, ◌^◌, ◌<◌, Bool, true, false, not, ◌&&◌, cond, ◌≡◌, List}
-use Rattle.std.specs.Prelude.{[], ◌∷◌, map, ℤ, T, eqb, Float, length}
+use Rattle.std.specs.Prelude.{[], ◌∷◌, map, ℤ, T, eqb, Float, length, Option, Result, Ok, Err}
 use Rattle.std.specs.Float.{inf, binary32}
 use Rattle.std.specs.Float.Ieee.{sub, mul, lt}
 use Rattle.ground.specs.declared.Cell.{Cell}
-use Rattle.ground.specs.Answer.{kept}
-use Rattle.ground.specs.Refusal.{LENGTH, ◌gives◌, first_of}
+use Rattle.ground.specs.Answer.{number_of, answer_by}
+use Rattle.ground.specs.declared.Refusal.{Refusal}
 use Rattle.ground.specs.declared.ConstellationOrder.{ConstellationOrder}
 use Rattle.ground.specs.declared.ConstellationOrder.TheVariants.{Qpsk, Qam16, Qam64}
 use Rattle.gray.specs.declared.Soft.{Soft}
-use Rattle.gray.specs.declared.Soft.TheVariants.{Two, Four, Six, Refused}
-use Rattle.gray.specs.Levels.{is_size, order_of, levels, coordinate}
+use Rattle.gray.specs.declared.Soft.TheVariants.{Two, Four, Six}
+use Rattle.gray.specs.Levels.{size_no, order_of, levels, coordinate}
 use Rattle.gray.specs.Hard.{entry}
 
 abbrev pub square : Float → Float → Float
@@ -57,7 +57,7 @@ abbrev pub softs_of : ConstellationOrder → Cell → ℕ → List Float
 softs_of o c zero = []
 softs_of o c (suc k) = soft o k c.re ∷ soft o k c.im ∷ softs_of o c k
 
--- those of all places, as an answer
+-- those of all places, as the call has them
 abbrev pub soft_at : ConstellationOrder → Cell → Soft
 soft_at Qpsk c = Two (soft Qpsk 0 c.re) (soft Qpsk 0 c.im)
 soft_at Qam16 c = Four (soft Qam16 1 c.re) (soft Qam16 1 c.im) (soft Qam16 0 c.re) (soft Qam16 0 c.im)
@@ -65,22 +65,23 @@ soft_at Qam64 c =
     Six (soft Qam64 2 c.re) (soft Qam64 2 c.im) (soft Qam64 1 c.re) (soft Qam64 1 c.im)
     (soft Qam64 0 c.re) (soft Qam64 0 c.im)
 
--- document 01's number and the values, for each case of the answer
-abbrev pub soft_number_of : Soft → ℕ
-soft_number_of (Two a b) = 0
-soft_number_of (Four a b c d) = 0
-soft_number_of (Six a b c d e f) = 0
-soft_number_of (Refused k) = k
+-- the values in a row
+abbrev pub values_of : Soft → List Float
+values_of (Two a b) = a ∷ b ∷ []
+values_of (Four a b c d) = a ∷ b ∷ c ∷ d ∷ []
+values_of (Six a b c d e f) = a ∷ b ∷ c ∷ d ∷ e ∷ f ∷ []
 
-abbrev pub soft_values_of : Soft → List Float
-soft_values_of (Two a b) = a ∷ b ∷ []
-soft_values_of (Four a b c d) = a ∷ b ∷ c ∷ d ∷ []
-soft_values_of (Six a b c d e f) = a ∷ b ∷ c ∷ d ∷ e ∷ f ∷ []
-soft_values_of (Refused k) = []
+-- the refusal and the values, for each case of the answer
+abbrev pub soft_number_of : Result Soft Refusal → Option Refusal
+soft_number_of answer = number_of answer
 
--- ---- soft demapping of a cell to v bits: its number, and the values where that is 0, else the refusal
-abbrev pub soft_no : ℕ → ℕ
-soft_no v = first_of (not (is_size v) gives LENGTH ∷ [])
+abbrev pub soft_values_of : Result Soft Refusal → List Float
+soft_values_of (Ok values) = values_of values
+soft_values_of (Err refusal) = []
 
-abbrev pub soft_answer : Cell → ℕ → Soft
-soft_answer c v = kept (soft_no v) (soft_at (order_of v) c) (Refused (soft_no v))
+-- ---- soft demapping of a cell to v bits: its refusal, and the values where there is none
+abbrev pub soft_no : ℕ → Option Refusal
+soft_no v = size_no v
+
+abbrev pub soft_answer : Cell → ℕ → Result Soft Refusal
+soft_answer c v = answer_by (soft_no v) (soft_at (order_of v) c)

@@ -2,66 +2,48 @@
 // soft values.
 #![tactic(auto)]
 
-ghost use Rattle.std.specs.Prelude.{◌≡◌, cond, ◌+◌, ◌*◌, ◌%◌, ◌^◌, ◌≤◌, ◌<◌, pos, length, get_or};
+ghost use Rattle.std.specs.Prelude.{◌≡◌, ◌+◌, ◌*◌, ◌^◌, ◌≤◌, ◌<◌, pos, length, get_or};
 ghost use Rattle.std.specs.Float.{binary32};
-ghost use Rattle.std.specs.Float.Ieee.{of_int, lt};
-ghost use Rattle.ground.specs.Answer.{written, fill_answer};
+ghost use Rattle.std.specs.Float.Ieee.{of_int};
+ghost use Rattle.ground.specs.Answer.{answer_by, written};
 ghost use Rattle.ground.specs.Bits.{Bits};
 ghost use Rattle.ground.specs.Digits.{value_of};
-ghost use Rattle.gray.specs.Levels.{axis_bits, levels, scale, at};
+ghost use Rattle.gray.specs.Levels.{size_no, order_of, axis_bits, levels, scale, at};
 ghost use Rattle.gray.specs.Mapping.{every_other, map_answer};
-ghost use Rattle.gray.specs.Hard.{distances, First, bits_in_turn, demap_answer, Demapped};
-ghost use Rattle.gray.specs.Soft.{square, soft, soft_answer};
-ghost use Rattle.gray.specs.Inner.{map_answer_at, DemappedAt, apart_at, FirstBetween, lesser};
+ghost use Rattle.gray.specs.Hard.{Wrote, distances, First, bits_in_turn, demap_answer, Demapped};
+ghost use Rattle.gray.specs.Soft.{square, squares, least, soft, soft_answer};
+ghost use Rattle.gray.specs.Inner.{map_answer_at, distance_at, lesser, with_bit};
 
-use ground::{Cell, ConstellationOrder, Counted};
+use ground::{Cell, ConstellationOrder, Refusal};
 
-// A point with its two coordinates, or the refusal's number.
-#[derive(Clone, Copy)]
-pub enum Mapped {
-    Point(f32, f32),
-    Refused(u8),
-}
-
-// Two, four or six soft values in the order of the bits, or the refusal's number.
+// Two, four or six soft values in the order of the bits.
 #[derive(Clone, Copy)]
 pub enum Soft {
     Two(f32, f32),
     Four(f32, f32, f32, f32),
     Six(f32, f32, f32, f32, f32, f32),
-    Refused(u8),
-}
-
-// An index of an axis, with how far a received coordinate lies from it.
-#[derive(Clone, Copy)]
-struct Candidate {
-    index: usize,
-    apart: f32,
-}
-
-// The soft values of an axis of two bits.
-#[derive(Clone, Copy)]
-struct Pair {
-    high: f32,
-    low: f32,
-}
-
-// The soft values of an axis of three bits.
-#[derive(Clone, Copy)]
-struct Triple {
-    high: f32,
-    middle: f32,
-    low: f32,
 }
 
 // The levels of a QPSK axis by index, EN 300 744 figure 9a.
-const DVB_T_AXIS_QPSK: [i8; 2] = [1, -1];
+static DVB_T_AXIS_QPSK: [i8; 2] = [1, -1];
 
 // The levels of a 16-QAM axis by index, EN 300 744 figure 9a.
-const DVB_T_AXIS_16QAM: [i8; 4] = [3, 1, -3, -1];
+static DVB_T_AXIS_16QAM: [i8; 4] = [3, 1, -3, -1];
 
 // The levels of a 64-QAM axis by index, EN 300 744 figure 9a.
-const DVB_T_AXIS_64QAM: [i8; 8] = [7, 5, 1, 3, -7, -5, -1, -3];
+static DVB_T_AXIS_64QAM: [i8; 8] = [7, 5, 1, 3, -7, -5, -1, -3];
+
+// The constellation whose bit groups have a size: two, four or six bits.
+fn order_of(size: usize) -> Result<ConstellationOrder, Refusal>
+    ensures { result ≡ answer_by (size_no size) (order_of size) }
+{
+    match size {
+        2 => Ok(ConstellationOrder::Qpsk),
+        4 => Ok(ConstellationOrder::Qam16),
+        6 => Ok(ConstellationOrder::Qam64),
+        _ => Err(Refusal::Length),
+    }
+}
 
 // The scale of an axis: 1/sqrt(2), 1/sqrt(10) or 1/sqrt(42).
 fn axis_scale(order: ConstellationOrder) -> f32
@@ -74,15 +56,14 @@ fn axis_scale(order: ConstellationOrder) -> f32
     }
 }
 
-// The level at an index of an axis.
-fn axis_level(order: ConstellationOrder, index: usize) -> f32
-    requires { index < length (levels order) }
-    ensures { result ≡ of_int binary32 (get_or (levels order) index (pos 0)) }
+// The levels of an axis by index.
+fn axis_levels(order: ConstellationOrder) -> &'static [i8]
+    ensures { result.now ≡ levels order }
 {
     match order {
-        ConstellationOrder::Qpsk => DVB_T_AXIS_QPSK[index] as f32,
-        ConstellationOrder::Qam16 => DVB_T_AXIS_16QAM[index] as f32,
-        ConstellationOrder::Qam64 => DVB_T_AXIS_64QAM[index] as f32,
+        ConstellationOrder::Qpsk => &DVB_T_AXIS_QPSK,
+        ConstellationOrder::Qam16 => &DVB_T_AXIS_16QAM,
+        ConstellationOrder::Qam64 => &DVB_T_AXIS_64QAM,
     }
 }
 
@@ -91,7 +72,7 @@ fn axis_point(order: ConstellationOrder, index: usize) -> f32
     requires { index < length (levels order) }
     ensures { result ≡ at order index }
 {
-    axis_level(order, index) * axis_scale(order)
+    f32::from(axis_levels(order)[index]) * axis_scale(order)
 }
 
 // How many bits of a group belong to each axis.
@@ -105,148 +86,72 @@ fn axis_bits(order: ConstellationOrder) -> usize
     }
 }
 
-// The bit at a place.
-fn bit(bits: &[u8], place: usize) -> usize
-    requires { (place < length bits.now) × Bits bits.now }
-    ensures { (result ≡ get_or bits.now place 0) × (result < 2) }
-{
-    bits[place] as usize
-}
-
 // The index that the bits of an axis write, from its first bit on, every other one.
 fn axis_index(bits: &[u8], first: usize, count: usize) -> usize
-    requires { (first < 2) × (1 ≤ count) × (count ≤ 3) × (2 * count ≤ length bits.now) × Bits bits.now }
+    requires { (first < 2) × (count ≤ 3) × (2 * count ≤ length bits.now) × Bits bits.now }
     ensures { (result ≡ value_of 0 (every_other count first bits.now)) × (result < 2 ^ count) }
 {
-    let high = bit(bits, first);
-    if count == 1 {
-        return high;
+    let mut index = 0;
+    for place in 0..count {
+        index = 2 * index + usize::from(bits[first + 2 * place]);
     }
-    let next = first + 2;
-    let middle = bit(bits, next);
-    if count == 2 {
-        return 2 * high + middle;
-    }
-    let low = bit(bits, next + 2);
-    2 * (2 * high + middle) + low
+    index
 }
 
 // The point of a bit group whose size is that of the constellation.
-fn place(order: ConstellationOrder, bits: &[u8]) -> Mapped
+fn point_of(order: ConstellationOrder, bits: &[u8]) -> Result<Cell, Refusal>
     requires { 2 * axis_bits order ≤ length bits.now }
     ensures { result ≡ map_answer_at order bits.now }
 {
-    if ground::inner::all_bits(bits) {
-        let count = axis_bits(order);
-        let i = axis_index(bits, 0, count);
-        let q = axis_index(bits, 1, count);
-        Mapped::Point(axis_point(order, i), axis_point(order, q))
-    } else {
-        Mapped::Refused(ground::NOT_A_BIT)
+    if !ground::inner::all_bits(bits) {
+        return Err(Refusal::NotABit);
     }
+    let count = axis_bits(order);
+    let i = axis_index(bits, 0, count);
+    let q = axis_index(bits, 1, count);
+    Ok(Cell {
+        re: axis_point(order, i),
+        im: axis_point(order, q),
+    })
 }
 
 // The point of a group of two, four or six bits, EN 300 744 section 4.3.5.
-pub fn dvb_t_map_symbol(bits: &[u8]) -> Mapped
+pub fn dvb_t_map_symbol(bits: &[u8]) -> Result<Cell, Refusal>
     ensures { result ≡ map_answer bits.now }
 {
-    let n = bits.len();
-    if n == 2 {
-        return place(ConstellationOrder::Qpsk, bits);
+    // Each arm names its constellation, since mapping by an order that is no constant takes longer: by a seventh at
+    // six bits, by two thirds at two and four.
+    match order_of(bits.len())? {
+        ConstellationOrder::Qpsk => point_of(ConstellationOrder::Qpsk, bits),
+        ConstellationOrder::Qam16 => point_of(ConstellationOrder::Qam16, bits),
+        ConstellationOrder::Qam64 => point_of(ConstellationOrder::Qam64, bits),
     }
-    if n == 4 {
-        return place(ConstellationOrder::Qam16, bits);
-    }
-    if n == 6 {
-        return place(ConstellationOrder::Qam64, bits);
-    }
-    Mapped::Refused(ground::LENGTH)
 }
 
-// An index of the axis as a candidate for x.
-fn candidate_at(order: ConstellationOrder, x: f32, index: usize) -> Candidate
+// The distance of a coordinate to that at an index. Here and below a constellation and a coordinate go as two
+// parameters, and a place below its bits as a clause: a type of these would be made anew at each call.
+fn distance(order: ConstellationOrder, x: f32, index: usize) -> f32
     requires { index < length (levels order) }
-    ensures { (result.index ≡ index) × (result.apart ≡ apart_at order x index) }
+    ensures { result ≡ distance_at order x index }
 {
     let difference = x - axis_point(order, index);
-    let opposite = -difference;
-    if difference < opposite {
-        Candidate {
-            index,
-            apart: opposite,
-        }
-    } else {
-        Candidate {
-            index,
-            apart: difference,
-        }
-    }
-}
-
-// The second of two candidates where it lies nearer, else the first.
-fn nearer(a: Candidate, b: Candidate) -> Candidate
-    ensures { result ≡ cond (lt b.apart a.apart) b a }
-{
-    if b.apart < a.apart { b } else { a }
-}
-
-// The nearest of the two indices from one on.
-fn nearest_of_two(order: ConstellationOrder, x: f32, index: usize) -> Candidate
-    requires { index + 2 ≤ length (levels order) }
-    ensures { FirstBetween order x index (index + 2) result }
-{
-    nearer(
-        candidate_at(order, x, index),
-        candidate_at(order, x, index + 1),
-    )
-}
-
-// The nearest of the four indices from one on.
-fn nearest_of_four(order: ConstellationOrder, x: f32, index: usize) -> Candidate
-    requires { index + 4 ≤ length (levels order) }
-    ensures { FirstBetween order x index (index + 4) result }
-{
-    nearer(
-        nearest_of_two(order, x, index),
-        nearest_of_two(order, x, index + 2),
-    )
-}
-
-// The nearest of the eight indices of a 64-QAM axis.
-fn nearest_of_eight(x: f32) -> Candidate
-    ensures { FirstBetween ConstellationOrder.Qam64 x 0 8 result }
-{
-    nearer(
-        nearest_of_four(ConstellationOrder::Qam64, x, 0),
-        nearest_of_four(ConstellationOrder::Qam64, x, 4),
-    )
+    difference.abs()
 }
 
 // The first index of the axis with the least distance.
 fn nearest_index(order: ConstellationOrder, x: f32) -> usize
     ensures { First (distances order x) result }
 {
-    match order {
-        ConstellationOrder::Qpsk => {
-            let nearest = nearest_of_two(ConstellationOrder::Qpsk, x, 0);
-            nearest.index
-        }
-        ConstellationOrder::Qam16 => {
-            let nearest = nearest_of_four(ConstellationOrder::Qam16, x, 0);
-            nearest.index
-        }
-        ConstellationOrder::Qam64 => {
-            let nearest = nearest_of_eight(x);
-            nearest.index
+    let mut nearest = 0;
+    let mut least = distance(order, x, 0);
+    for index in 1..axis_levels(order).len() {
+        let apart = distance(order, x, index);
+        if apart < least {
+            nearest = index;
+            least = apart;
         }
     }
-}
-
-// The lowest bit of a number.
-fn low_bit(x: usize) -> u8
-    ensures { result ≡ x % 2 }
-{
-    (x % 2) as u8
+    nearest
 }
 
 // The low bits of two indices, high first, in turn.
@@ -254,48 +159,39 @@ fn write_bits(count: usize, i: usize, q: usize, out: &mut [u8])
     requires { (count ≤ 3) × (2 * count ≤ length out.old) }
     ensures { out.new ≡ written (bits_in_turn count i q) out.old }
 {
-    let mut j: usize = 0;
-    while j < count {
-        let s = count - 1 - j;
-        out[2 * j] = low_bit(i >> s);
-        out[2 * j + 1] = low_bit(q >> s);
-        j += 1;
+    for j in 0..count {
+        let above = count - 1 - j;
+        out[2 * j] = ((i >> above) % 2) as u8;
+        out[2 * j + 1] = ((q >> above) % 2) as u8;
     }
 }
 
-// The bits of the nearest point of a constellation, written at the front of the output where it has room.
-fn demap(order: ConstellationOrder, sym: Cell, out: &mut [u8]) -> Counted
-    ensures answer { result ≡ fill_answer (2 * axis_bits order) out.old }
-    ensures output { DemappedAt order sym out.old out.new }
+// The bits of the nearest point of a constellation, written at the front of the output.
+fn put_nearest(order: ConstellationOrder, sym: Cell, out: &mut [u8])
+    requires { 2 * axis_bits order ≤ length out.old }
+    ensures { Wrote order sym out.old out.new }
 {
-    let count = axis_bits(order);
-    let v = 2 * count;
-    if out.len() < v {
-        return Counted::Refused(ground::OUTPUT_SHORT);
-    }
-    let re = sym.re;
-    let im = sym.im;
-    let i = nearest_index(order, re);
-    let q = nearest_index(order, im);
-    write_bits(count, i, q, out);
-    Counted::Count(v)
+    let i = nearest_index(order, sym.re);
+    let q = nearest_index(order, sym.im);
+    write_bits(axis_bits(order), i, q, out);
 }
 
 // The bits of the nearest point of a received cell, EN 300 744 section 4.3.5.
-pub fn dvb_t_demap_symbol(sym: Cell, v: usize, out: &mut [u8]) -> Counted
+pub fn dvb_t_demap_symbol(sym: Cell, v: usize, out: &mut [u8]) -> Result<usize, Refusal>
     ensures answer { result ≡ demap_answer v out.old }
     ensures output { Demapped sym v out.old out.new }
 {
-    if v == 2 {
-        return demap(ConstellationOrder::Qpsk, sym, out);
+    let order = order_of(v)?;
+    if out.len() < v {
+        return Err(Refusal::OutputShort);
     }
-    if v == 4 {
-        return demap(ConstellationOrder::Qam16, sym, out);
+    // As above each arm names its constellation: else it takes twice as long at two bits.
+    match order {
+        ConstellationOrder::Qpsk => put_nearest(ConstellationOrder::Qpsk, sym, out),
+        ConstellationOrder::Qam16 => put_nearest(ConstellationOrder::Qam16, sym, out),
+        ConstellationOrder::Qam64 => put_nearest(ConstellationOrder::Qam64, sym, out),
     }
-    if v == 6 {
-        return demap(ConstellationOrder::Qam64, sym, out);
-    }
-    Counted::Refused(ground::LENGTH)
+    Ok(v)
 }
 
 // The squared distance to the coordinate at an index.
@@ -314,72 +210,73 @@ fn lesser_of(a: f32, b: f32) -> f32
     if a < b { a } else { b }
 }
 
-// The least of four numbers, by pairs.
-fn least_of_four(a: f32, b: f32, c: f32, d: f32) -> f32
-    ensures { result ≡ lesser (lesser a b) (lesser c d) }
+// The index with a bit at a place, the others in their order being those of a number.
+fn with_bit(rest: usize, place: usize, bit: usize) -> usize
+    requires { (rest < 4) × (place < 3) × (bit < 2) }
+    ensures { result ≡ with_bit rest place bit }
 {
-    lesser_of(lesser_of(a, b), lesser_of(c, d))
+    let unit = 1 << place;
+    rest / unit * unit * 2 + bit * unit + rest % unit
 }
 
-// The soft value of a QPSK axis.
-fn soft_qpsk(x: f32) -> f32
-    ensures { result ≡ soft ConstellationOrder.Qpsk 0 x }
+// The squared distance to the coordinate at an index that has a bit at a place.
+fn squared_with(order: ConstellationOrder, x: f32, rest: usize, place: usize, bit: usize) -> f32
+    requires { (2 * rest + 1 < length (levels order)) × (place < axis_bits order) × (bit < 2) }
+    ensures { result ≡ square x (at order (with_bit rest place bit)) }
 {
-    squared(ConstellationOrder::Qpsk, x, 1) - squared(ConstellationOrder::Qpsk, x, 0)
+    squared(order, x, with_bit(rest, place, bit))
 }
 
-// The soft values of a 16-QAM axis.
-fn soft_qam16(x: f32) -> Pair
-    ensures high { result.high ≡ soft ConstellationOrder.Qam16 1 x }
-    ensures low { result.low ≡ soft ConstellationOrder.Qam16 0 x }
+// The least squared distance to a coordinate whose index has a bit at a place, by pairs.
+fn least(order: ConstellationOrder, x: f32, place: usize, bit: usize) -> f32
+    requires { (place < axis_bits order) × (bit < 2) }
+    ensures { result ≡ least (squares order place bit x) }
 {
-    let zero = squared(ConstellationOrder::Qam16, x, 0);
-    let one = squared(ConstellationOrder::Qam16, x, 1);
-    let two = squared(ConstellationOrder::Qam16, x, 2);
-    let three = squared(ConstellationOrder::Qam16, x, 3);
-    let high = lesser_of(two, three) - lesser_of(zero, one);
-    let low = lesser_of(one, three) - lesser_of(zero, two);
-    Pair { high, low }
+    let zero = squared_with(order, x, 0, place, bit);
+    // A loop that takes one square after the other needs a fifth more time at six bits.
+    match order {
+        ConstellationOrder::Qpsk => zero,
+        ConstellationOrder::Qam16 => lesser_of(zero, squared_with(order, x, 1, place, bit)),
+        ConstellationOrder::Qam64 => lesser_of(
+            lesser_of(zero, squared_with(order, x, 1, place, bit)),
+            lesser_of(
+                squared_with(order, x, 2, place, bit),
+                squared_with(order, x, 3, place, bit),
+            ),
+        ),
+    }
 }
 
-// The soft values of a 64-QAM axis.
-fn soft_qam64(x: f32) -> Triple
-    ensures high { result.high ≡ soft ConstellationOrder.Qam64 2 x }
-    ensures middle { result.middle ≡ soft ConstellationOrder.Qam64 1 x }
-    ensures low { result.low ≡ soft ConstellationOrder.Qam64 0 x }
+// The soft value of the bit at a place of an axis.
+fn soft_value(order: ConstellationOrder, place: usize, x: f32) -> f32
+    requires { place < axis_bits order }
+    ensures { result ≡ soft order place x }
 {
-    let zero = squared(ConstellationOrder::Qam64, x, 0);
-    let one = squared(ConstellationOrder::Qam64, x, 1);
-    let two = squared(ConstellationOrder::Qam64, x, 2);
-    let three = squared(ConstellationOrder::Qam64, x, 3);
-    let four = squared(ConstellationOrder::Qam64, x, 4);
-    let five = squared(ConstellationOrder::Qam64, x, 5);
-    let six = squared(ConstellationOrder::Qam64, x, 6);
-    let seven = squared(ConstellationOrder::Qam64, x, 7);
-    let high = least_of_four(four, five, six, seven) - least_of_four(zero, one, two, three);
-    let middle = least_of_four(two, three, six, seven) - least_of_four(zero, one, four, five);
-    let low = least_of_four(one, three, five, seven) - least_of_four(zero, two, four, six);
-    Triple { high, middle, low }
+    least(order, x, place, 1) - least(order, x, place, 0)
 }
 
 // The soft values of a received cell, in the order of the bits.
-pub fn dvb_t_soft_llr(sym: Cell, v: usize) -> Soft
+pub fn dvb_t_soft_llr(sym: Cell, v: usize) -> Result<Soft, Refusal>
     ensures { result ≡ soft_answer sym v }
 {
-    let re = sym.re;
-    let im = sym.im;
-    if v == 2 {
-        return Soft::Two(soft_qpsk(re), soft_qpsk(im));
-    }
-    if v == 4 {
-        let i = soft_qam16(re);
-        let q = soft_qam16(im);
-        return Soft::Four(i.high, q.high, i.low, q.low);
-    }
-    if v == 6 {
-        let i = soft_qam64(re);
-        let q = soft_qam64(im);
-        return Soft::Six(i.high, q.high, i.middle, q.middle, i.low, q.low);
-    }
-    Soft::Refused(ground::LENGTH)
+    Ok(match order_of(v)? {
+        ConstellationOrder::Qpsk => Soft::Two(
+            soft_value(ConstellationOrder::Qpsk, 0, sym.re),
+            soft_value(ConstellationOrder::Qpsk, 0, sym.im),
+        ),
+        ConstellationOrder::Qam16 => Soft::Four(
+            soft_value(ConstellationOrder::Qam16, 1, sym.re),
+            soft_value(ConstellationOrder::Qam16, 1, sym.im),
+            soft_value(ConstellationOrder::Qam16, 0, sym.re),
+            soft_value(ConstellationOrder::Qam16, 0, sym.im),
+        ),
+        ConstellationOrder::Qam64 => Soft::Six(
+            soft_value(ConstellationOrder::Qam64, 2, sym.re),
+            soft_value(ConstellationOrder::Qam64, 2, sym.im),
+            soft_value(ConstellationOrder::Qam64, 1, sym.re),
+            soft_value(ConstellationOrder::Qam64, 1, sym.im),
+            soft_value(ConstellationOrder::Qam64, 0, sym.re),
+            soft_value(ConstellationOrder::Qam64, 0, sym.im),
+        ),
+    })
 }

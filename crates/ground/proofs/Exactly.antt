@@ -9,8 +9,10 @@ use lib.Dec.{T, eqb, ltb, leb}
 use lib.Ieee.Fits.{and_l, and_r}
 use borrow.Author.Tests.{lt-ltb, le-ltb, ltb-true, ltb-false, lt-leb, le-leb, leb-true, leb-false, eq-eqb, ne_eqb, eqb-true, eqb-false, not-true, not-false}
 use lib.ListN.{length}
+use Rattle.std.specs.Prelude.{Option}
+use Rattle.ground.specs.declared.Refusal.{Refusal}
 use Rattle.ground.specs.Answer.{fill_no}
-use Rattle.ground.specs.Refusal.{ACCEPTED, OUTPUT_SHORT, Test, ◌gives◌, first_of}
+use Rattle.ground.specs.Refusal.{ACCEPTED, OUTPUT_SHORT, Test, ◌gives◌, first_of, code}
 use Rattle.ground.specs.Bits.{Bits, are_bits}
 use Rattle.ground.proofs.Bits.{bits_of_lem, are-bits}
 
@@ -72,51 +74,51 @@ at_most k n = by (leb k n) refl
     by true e = inl (leb-true k n e)
     by false e = inr (leb-false k n e)
 
--- ---- the number of a call
+-- ---- the refusal of a call
 
--- n is neither 0 nor given by a test of the list
-abbrev pub lacks : ℕ → List Test → Bool
-lacks n [] = not (eqb n ACCEPTED)
-lacks n ((test gives k) ∷ tests) = not (eqb n k) && lacks n tests
+-- n is neither none nor given by a test of the list
+abbrev pub lacks : Option Refusal → List Test → Bool
+lacks n [] = not (eqb (code n) (code ACCEPTED))
+lacks n ((test gives k) ∷ tests) = not (eqb (code n) (code k)) && lacks n tests
 
-apart : (n k : ℕ) → T (not (eqb n k)) → k ≡ n → ⊥
-apart n k t e = subst (λ (b : Bool). T (not b)) (eq-eqb n k (sym e)) t
+apart : (n k : Option Refusal) → T (not (eqb (code n) (code k))) → k ≡ n → ⊥
+apart n k t e = subst (λ (b : Bool). T (not b)) (eq-eqb (code n) (code k) (ap code (sym e))) t
 
-pub lacks-number : (n : ℕ) (tests : List Test) → T (lacks n tests) → first_of tests ≡ n → ⊥
+pub lacks-number : (n : Option Refusal) (tests : List Test) → T (lacks n tests) → first_of tests ≡ n → ⊥
 lacks-number n [] l e = apart n ACCEPTED l e
-lacks-number n ((true gives k) ∷ tests) l e = apart n k (and_l (not (eqb n k)) (lacks n tests) l) e
-lacks-number n ((false gives k) ∷ tests) l e = lacks-number n tests (and_r (not (eqb n k)) (lacks n tests) l) e
+lacks-number n ((true gives k) ∷ tests) l e = apart n k (and_l (not (eqb (code n) (code k))) (lacks n tests) l) e
+lacks-number n ((false gives k) ∷ tests) l e = lacks-number n tests (and_r (not (eqb (code n) (code k))) (lacks n tests) l) e
 
 -- the first test's number, which no other gives
-pub given-here : {test : Bool} {P Q : Type 0} (k : ℕ) (tests : List Test) → Decides test P Q → T (lacks k tests)
+pub given-here : {test : Bool} {P Q : Type 0} (k : Option Refusal) (tests : List Test) → Decides test P Q → T (lacks k tests)
     → (first_of ((test gives k) ∷ tests) ≡ k) ↔ P
 given-here {test = true} k tests d l = (λ e. d.holds.0 refl, λ p. refl)
 given-here {test = false} k tests d l = (λ e. absurd (lacks-number k tests l e), λ p. absurd (false≢true (d.holds.1 p)))
 
 -- the first test's number, which another gives too
-pub given-either : {test : Bool} {P Q R : Type 0} (k : ℕ) (tests : List Test) → Decides test P Q → (first_of tests ≡ k) ↔ R
+pub given-either : {test : Bool} {P Q R : Type 0} (k : Option Refusal) (tests : List Test) → Decides test P Q → (first_of tests ≡ k) ↔ R
     → (first_of ((test gives k) ∷ tests) ≡ k) ↔ (P ⊎ R)
 given-either {test = true} k tests d r = (λ e. inl (d.holds.0 refl), λ p. refl)
 given-either {test = false} k tests d r = (λ e. inr (r.0 e), ⊎_elim (λ p. absurd (false≢true (d.holds.1 p))) r.1)
 
 -- another number, or none: the first test fails, and where it does the others give it
-pub given-behind : {test : Bool} {P Q R : Type 0} (k n : ℕ) (tests : List Test) → Decides test P Q → T (not (eqb n k))
+pub given-behind : {test : Bool} {P Q R : Type 0} (k n : Option Refusal) (tests : List Test) → Decides test P Q → T (not (eqb (code n) (code k)))
     → (Q → (first_of tests ≡ n) ↔ R) → (first_of ((test gives k) ∷ tests) ≡ n) ↔ (Q × R)
 given-behind {test = true} k n tests d l r = (λ e. absurd (apart n k l e), λ p. absurd (true≢false (d.fails.1 p.0)))
 given-behind {test = false} k n tests d l r = (λ e. (d.fails.0 refl, (r (d.fails.0 refl)).0 e), λ p. (r p.0).1 p.1)
 
 -- a number that the others give in any case: exactly where the first test fails
-pub given_otherwise : {test : Bool} {P Q : Type 0} (k n : ℕ) (tests : List Test) → Decides test P Q → T (not (eqb n k)) → first_of tests ≡ n
+pub given_otherwise : {test : Bool} {P Q : Type 0} (k n : Option Refusal) (tests : List Test) → Decides test P Q → T (not (eqb (code n) (code k))) → first_of tests ≡ n
     → (first_of ((test gives k) ∷ tests) ≡ n) ↔ Q
 given_otherwise {test = true} k n tests d l r = (λ e. absurd (apart n k l e), λ q. absurd (true≢false (d.fails.1 q)))
 given_otherwise {test = false} k n tests d l r = (λ e. d.fails.0 refl, λ q. r)
 
 -- the last test, where no number is given
-pub accepted-last : {test : Bool} {P Q : Type 0} (k : ℕ) → Decides test P Q → T (not (eqb ACCEPTED k)) → (first_of ((test gives k) ∷ []) ≡ ACCEPTED) ↔ Q
+pub accepted-last : {test : Bool} {P Q : Type 0} (k : Option Refusal) → Decides test P Q → T (not (eqb (code ACCEPTED) (code k))) → (first_of ((test gives k) ∷ []) ≡ ACCEPTED) ↔ Q
 accepted-last k d l = given_otherwise k ACCEPTED [] d l refl
 
 -- an answer that says a call's number says n exactly where that is n
-pub said_exactly : {P : Type 0} {said no n : ℕ} → said ≡ no → (no ≡ n) ↔ P → (said ≡ n) ↔ P
+pub said_exactly : {P : Type 0} {said number n : Option Refusal} → said ≡ number → (number ≡ n) ↔ P → (said ≡ n) ↔ P
 said_exactly e h = (λ f. h.0 (sym e ∙ f), λ p. e ∙ h.1 p)
 
 -- a call that is refused only where the lent output has no room for n items

@@ -3,17 +3,17 @@
 use mathlib.Core.Path.{◌≡◌, refl, sym, subst}
 use mathlib.Core.Logic.{◌↔◌}
 use mathlib.Core.List.{List, [], ◌∷◌}
-use Prim.Native.Nat.{ℕ, zero, suc, ◌+◌, ◌*◌, ◌%◌, ◌<◌, ◌≤◌}
-use native.Mathlib.Nat.{not-suc-le-zero}
+use Prim.Native.Nat.{ℕ, ◌+◌, ◌*◌, ◌%◌, ◌<◌, ◌≤◌}
 use native.Mathlib.Omega.{arith}
 use lib.Ieee.{Float}
 use lib.ListN.{length, get_or}
+use Rattle.std.specs.Prelude.{Option, Some, None}
+use Rattle.ground.specs.declared.Refusal.{Refusal}
 use Rattle.ground.specs.Answer.{kept, short}
 use Rattle.ground.specs.Refusal.{ACCEPTED, LENGTH, OUTPUT_SHORT, ◌gives◌}
-use Rattle.ground.specs.declared.Counted.TheVariants.{Count, Refused}
 use Rattle.ground.proofs.Exactly.{less_decides, given-here, given-behind, accepted-last}
 use Rattle.interleaver.specs.Permutation.{Interleaver, permutation}
-use Rattle.interleaver.specs.Interleaving.{Wrote, AtPlaces, Interleaved, Deinterleaved, reorder_no, reorder_answer, Interleaves, Deinterleaves}
+use Rattle.interleaver.specs.Interleaving.{Wrote, AtPlaces, Interleaved, Deinterleaved, reorder_no, Interleaves, Deinterleaves}
 use Rattle.interleaver.specs.Inner.{Moved}
 use Rattle.interleaver.proofs.Facts.{Facts}
 use Rattle.interleaver.proofs.Parity.{as_even, as_odd, other-parity}
@@ -59,18 +59,18 @@ module _ (m : Interleaver) (x old : List Float) where
 
 module _ (P : Type 0) (old new : List Float) where
   -- a refused call leaves the output as it was
-  pub refused_keeps : (number : ℕ) → 0 < number → kept number P (new ≡ old) → new ≡ old
-  refused_keeps zero h k = absurd (not-suc-le-zero h)
-  refused_keeps (suc n) h k = k
+  pub refused_keeps : (number : Option Refusal) → (number ≡ ACCEPTED → ⊥) → kept number P (new ≡ old) → new ≡ old
+  refused_keeps None h k = absurd (h refl)
+  refused_keeps (Some refusal) h k = k
 
   -- an accepted one does what is said
-  pub accepted_does : (number : ℕ) → number ≡ ACCEPTED → kept number P (new ≡ old) → P
-  accepted_does zero e k = k
-  accepted_does (suc n) e k = absurd (omega arith)
+  pub accepted_does : (number : Option Refusal) → number ≡ ACCEPTED → kept number P (new ≡ old) → P
+  accepted_does None e k = k
+  accepted_does (Some refusal) e k = absurd (cc)
 
-  kept_as : (number : ℕ) (Q : Type 0) → (P → Q) → kept number P (new ≡ old) → kept number Q (new ≡ old)
-  kept_as zero Q f k = f k
-  kept_as (suc n) Q f k = k
+  kept_as : (number : Option Refusal) (Q : Type 0) → (P → Q) → kept number P (new ≡ old) → kept number Q (new ≡ old)
+  kept_as None Q f k = f k
+  kept_as (Some refusal) Q f k = k
 
 -- what interleaving leaves in the symbol of the other parity deinterleaving leaves in this one
 pub leaves-other : (m : Interleaver) (s : ℕ) (x old new : List Float) → Interleaves m (s % 2 + 1) x old new → Deinterleaves m s x old new
@@ -78,15 +78,8 @@ leaves-other m s x old new =
     kept_as (Wrote m.places (Interleaved m (s % 2 + 1) x) old new) old new (reorder_no m x old) (Wrote m.places (Deinterleaved m s x) old new)
     (wrote_as (other-parity m (s % 2 + 1) s x new (omega arith)).0)
 
--- ---- the ways out of interleaving
+-- ---- an interleaving that is accepted
 
-module _ (m : Interleaver) (s : ℕ) (x old : List Float) where
-  pub says-length : length x < 2 * m.places → (Refused LENGTH ≡ reorder_answer m x old) × Interleaves m s x old old
-  says-length h = rw ((length_exactly m x old).1 h) (refl, refl)
-
-  pub says-short : 2 * m.places ≤ length x → length old < 2 * m.places → (Refused OUTPUT_SHORT ≡ reorder_answer m x old) × Interleaves m s x old old
-  says-short h l = rw ((short_exactly m x old).1 (h, l)) (refl, refl)
-
-  pub says-done : (new : List Float) → 2 * m.places ≤ length x → 2 * m.places ≤ length old → Wrote m.places (Interleaved m s x) old new
-      → (Count m.places ≡ reorder_answer m x old) × Interleaves m s x old new
-  says-done new h l w = rw ((accepted_exactly m x old).1 (h, l)) (refl, w)
+pub leaves-done : (m : Interleaver) (s : ℕ) (x old new : List Float) → 2 * m.places ≤ length x → 2 * m.places ≤ length old
+    → Wrote m.places (Interleaved m s x) old new → Interleaves m s x old new
+leaves-done m s x old new h l w = rw ((accepted_exactly m x old).1 (h, l)) w

@@ -6,6 +6,8 @@ use Prim.Native.Nat.{ℕ, zero, suc, ◌+◌, ◌*◌, ◌%◌, ◌≤◌}
 use native.Mathlib.Omega.{arith}
 use lib.Ieee.{Float}
 use lib.ListN.{length, get_or}
+use Rattle.std.specs.Prelude.{Option, None, Some as Refused}
+use Rattle.ground.specs.declared.Refusal.{Refusal}
 use Rattle.ground.specs.Answer.{kept}
 use Rattle.ground.specs.Refusal.{ACCEPTED}
 use Rattle.interleaver.specs.Permutation.{Interleaver, permutation}
@@ -19,10 +21,10 @@ pub record Some (P : List Float → Type 0) : Type 0 where
   pub new : List Float
   pub meets : P new
 
-some-kept : (n : ℕ) (P : List Float → Type 0) (old : List Float) (number : ℕ) → (number ≡ ACCEPTED → Some (Wrote n P old))
+some-kept : (n : ℕ) (P : List Float → Type 0) (old : List Float) (number : Option Refusal) → (number ≡ ACCEPTED → Some (Wrote n P old))
     → Some (λ new. kept number (Wrote n P old new) (new ≡ old))
-some-kept n P old zero some = let a = some refl in record { new = a.new; meets = a.meets }
-some-kept n P old (suc number) some = record { new = old; meets = refl }
+some-kept n P old None some = let a = some refl in record { new = a.new; meets = a.meets }
+some-kept n P old (Refused refusal) some = record { new = old; meets = refl }
 
 module _ (m : Interleaver) (f : Facts m) (x old : List Float) where
   some_interleaved : (s : ℕ) → 2 * m.places ≤ length old → Some (Wrote m.places (Interleaved m s x) old)

@@ -33,9 +33,6 @@ module _ (n : ℕ) (to from : ℕ → ℕ) (x old : List Float) where
         behind = set_cell_behind s n (to k) c h ∙ m.behind;
       })
 
-  pub all_moved : (k : ℕ) (s : List Float) → k ≡ n → Moved n to from k x old s → Moved n to from n x old s
-  all_moved k s e m = subst (λ (j : ℕ). Moved n to from j x old s) e m
-
   -- the list that so many moves lead to
   pub record After (k : ℕ) : Type 0 where
     pub new : List Float

@@ -1,10 +1,10 @@
 -- Document 02, E6; EN 300 744, 4.3.4.2: the cells of a symbol in their coded order and in the order in which they are
 -- sent. Even symbols: cell q is sent at place H(q). Odd symbols: at place q cell H(q) is sent. A cell is two f32.
-use Rattle.std.specs.Prelude.{◌≡◌, List, [], ◌∷◌, ℕ, zero, suc, ◌*◌, ◌%◌, ◌<◌, Float, length, drop}
+use Rattle.std.specs.Prelude.{◌≡◌, List, [], ◌∷◌, ℕ, zero, suc, ◌*◌, ◌%◌, ◌<◌, Float, length, drop, Option, Result}
 use Rattle.ground.specs.Answer.{counted, kept, short}
 use Rattle.ground.specs.Cells.{cell_at}
 use Rattle.ground.specs.Refusal.{LENGTH, OUTPUT_SHORT, ◌gives◌, first_of}
-use Rattle.ground.specs.declared.Counted.{Counted}
+use Rattle.ground.specs.declared.Refusal.{Refusal}
 use Rattle.interleaver.specs.Permutation.{Interleaver, place}
 
 -- the first where a number is even, the second where it is odd
@@ -34,12 +34,12 @@ module _ (m : Interleaver) where
 
   -- ---- the calls, of which both are refused alike: LENGTH for short cells, OUTPUT SHORT for a short output
 
-  abbrev pub reorder_no : List Float → List Float → ℕ
+  abbrev pub reorder_no : List Float → List Float → Option Refusal
   reorder_no x out =
       first_of (short (2 * m.places) x gives LENGTH ∷ short (2 * m.places) out gives OUTPUT_SHORT ∷ [])
 
   -- they answer the cells
-  abbrev pub reorder_answer : List Float → List Float → Counted
+  abbrev pub reorder_answer : List Float → List Float → Result ℕ Refusal
   reorder_answer x out = counted (reorder_no x out) m.places
 
   -- and leave them in the output

@@ -1,55 +1,41 @@
 // The cases of TPS's sender and receiver: the 17 cells of a symbol stand as 34 floats, re and im of each in turn.
-ghost use Rattle.std.specs.Prelude.{◌+◌, ◌*◌, ◌<◌, ◌≤◌, length};
+ghost use Rattle.std.specs.Prelude.{◌<◌};
 
-use crate::table;
-use ground::Counted;
+use ground::Refusal;
+use stored::inner::Room;
 use tps::{TpsDecoder, TpsEncoder};
 
 // The sender after a bit, whose cells are laid as symbol k.
-fn sent(encoder: TpsEncoder, bit: u8, k: usize, room: &mut [u8; 16384]) -> TpsEncoder
+fn sent(encoder: TpsEncoder, bit: u8, k: usize, room: &mut Room) -> TpsEncoder
     requires { k < 68 }
 {
     let mut cells = [0.5f32; 34];
     let sent = encoder.next_symbol(bit, &mut cells);
     stored::inner::lay_floats(&cells, 136 * k, room);
-    let after = sent.encoder;
-    after
+    sent.encoder
 }
 
-// TpsEncoder: the cells of a run of bits from a new sender.
-pub(crate) fn send(input: &[u8], room: &mut [u8; 16384]) -> Counted {
+// TpsEncoder: the cells of a run of bits from a new sender, where they have room.
+pub(crate) fn send(input: &[u8], room: &mut Room) -> Option<Result<usize, Refusal>> {
     if 68 < input.len() {
-        return Counted::Count(table::NONE);
+        return None;
     }
     let mut encoder = TpsEncoder::new();
-    let mut k = 0;
-    while k < input.len() {
-        encoder = sent(encoder, input[k], k, room);
-        k += 1;
+    for (k, bit) in input.iter().enumerate() {
+        encoder = sent(encoder, *bit, k, room);
     }
-    Counted::Count(136 * k)
+    Some(Ok(136 * input.len()))
 }
 
-// The receiver after symbol k.
-fn fed(decoder: TpsDecoder, input: &[u8], k: usize) -> TpsDecoder
-    requires { 136 * k + 136 ≤ length input.now }
-{
-    let cells = stored::inner::floats_at(input, 136 * k);
-    let fed = decoder.feed_symbol(&cells);
-    let after = fed.decoder;
-    after
-}
-
-// TpsDecoder: the bits of a run of cells into a new receiver.
-pub(crate) fn receive(input: &[u8], room: &mut [u8; 16384]) -> Counted {
+// TpsDecoder: the bits of a run of whole symbols' cells into a new receiver.
+pub(crate) fn receive(input: &[u8], room: &mut Room) -> Option<Result<usize, Refusal>> {
     if input.len() % 136 != 0 {
-        return Counted::Count(table::NONE);
+        return None;
     }
     let mut decoder = TpsDecoder::new();
-    let mut k = 0;
-    while k < input.len() / 136 {
-        decoder = fed(decoder, input, k);
-        k += 1;
+    for symbol in input.chunks_exact(136) {
+        let cells = stored::inner::floats_at(symbol, 0);
+        decoder = decoder.feed_symbol(&cells).decoder;
     }
-    decoder.bits(room)
+    Some(decoder.bits(room))
 }

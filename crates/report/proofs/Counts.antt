@@ -1,23 +1,25 @@
 -- The report's lines for answers, and their counts, behind lines that stand already, where no count starts again: for a
 -- whole input. Assumes nothing.
-use Rattle.std.proofs.Common.{◌≡◌, ℕ, suc, ◌+◌, ◌^◌, ◌<◌, ◌≤◌, Bool, true, false, cond, eqb, List, [], ◌∷◌, ◌++◌, length, sym, ap, ◌∙◌, ap₂, append_assoc, append-nil, add-zero, mod-eq_of_lt, zero-add, arith}
+use Rattle.std.proofs.Common.{Ok, Err, ◌≡◌, ℕ, suc, ◌+◌, ◌^◌, ◌<◌, ◌≤◌, Bool, true, false, cond, eqb, List, [], ◌∷◌, ◌++◌, length, sym, ap, ◌∙◌, ap₂, append_assoc, append-nil, add-zero, mod-eq_of_lt, zero-add, arith}
 use lib.ListN.{length-map}
-use Rattle.tps.specs.declared.word.Unpacked.{Unpacked}
-use Rattle.tps.specs.declared.word.Unpacked.TheVariants.{Word, Refused}
+use Rattle.tps.specs.Packing.{Unpacked}
 use Rattle.report.specs.Reading.{read_answer, refusals}
 use Rattle.report.specs.Lines.{before, lines, answers}
-use Rattle.report.specs.Text.{line_text, heading, closing}
+use Rattle.report.specs.Text.{in_numbers, line_text, heading, closing}
 use Rattle.report.specs.Report.{numbered, all_refusals, report}
 use Rattle.report.specs.Telling.{rest_text}
 use Rattle.report.specs.Stream.{plus, teller}
 use Rattle.report.proofs.Telling.{rest-append}
-use Rattle.report.proofs.Parts.{counts}
+use Rattle.report.specs.declared.stream.Counts.{Counts}
+
+abbrev pub counts : ℕ → ℕ → Counts
+counts n m = record { lines = n; refused = m }
 
 -- ---- where no count starts again
 
 one_refusal : (a : Unpacked) → refusals a ≤ 1
-one_refusal (Word w m) = omega arith
-one_refusal (Refused k) = omega arith
+one_refusal (Ok u) = omega arith
+one_refusal (Err k) = omega arith
 
 rest-numbered : (n m : ℕ) (r : List Unpacked) → n + length r < 2 ^ 64 → m + length r < 2 ^ 64
     → rest_text teller (counts n m) r ≡ numbered (suc n) r ++ closing (n + length r) (m + all_refusals r)
@@ -29,11 +31,11 @@ rest-numbered n m (a ∷ r) h k =
     let e : suc n + length r ≡ n + suc (length r) = omega arith in
     let f : m + refusals a + all_refusals r ≡ m + (refusals a + all_refusals r) = omega arith in
     sym (rest-append teller (counts n m) (a ∷ []) r)
-    ∙ ap (λ (t : List ℕ). t ++ rest_text teller (counts (plus n 1) (plus m (refusals a))) r) (append-nil (line_text (plus n 1) a))
-    ∙ ap₂ (λ (x y : ℕ). line_text x a ++ rest_text teller (counts x y) r) p q
-    ∙ ap (λ (t : List ℕ). line_text (suc n) a ++ t) (rest-numbered (suc n) (m + refusals a) r (omega arith) (omega arith))
-    ∙ ap₂ (λ (x y : ℕ). line_text (suc n) a ++ (numbered (suc (suc n)) r ++ closing x y)) e f
-    ∙ sym (append_assoc (line_text (suc n) a) (numbered (suc (suc n)) r) (closing (n + suc (length r)) (m + (refusals a + all_refusals r))))
+    ∙ ap (λ (t : List ℕ). t ++ rest_text teller (counts (plus n 1) (plus m (refusals a))) r) (append-nil (line_text (plus n 1) (in_numbers a)))
+    ∙ ap₂ (λ (x y : ℕ). line_text x (in_numbers a) ++ rest_text teller (counts x y) r) p q
+    ∙ ap (λ (t : List ℕ). line_text (suc n) (in_numbers a) ++ t) (rest-numbered (suc n) (m + refusals a) r (omega arith) (omega arith))
+    ∙ ap₂ (λ (x y : ℕ). line_text (suc n) (in_numbers a) ++ (numbered (suc (suc n)) r ++ closing x y)) e f
+    ∙ sym (append_assoc (line_text (suc n) (in_numbers a)) (numbered (suc (suc n)) r) (closing (n + suc (length r)) (m + (refusals a + all_refusals r))))
 
 -- ---- an input has at most as many lines as characters
 

@@ -2,8 +2,10 @@
 -- the whole input. The promises of feeding and of ending don't speak of the decoder that a call is given, so runs by
 -- the fast decoder, by the slow one or by both in turn print the same. There is a run for any calls, and calls for any
 -- cutting. Assumes nothing.
-use Rattle.std.proofs.Common.{◌≡◌, ℕ, zero, suc, ◌^◌, ◌<◌, List, [], ◌∷◌, ◌++◌, length, replicate, sym, refl, ap, ◌∙◌, subst, ap₂, append_assoc, arith, take_at}
+use Rattle.std.proofs.Common.{Option, Some, None, ◌≡◌, ℕ, ◌^◌, ◌<◌, List, [], ◌∷◌, ◌++◌, length, replicate, sym, refl, ap, ◌∙◌, subst, ap₂, append_assoc, arith, take_at}
 use lib.ListN.{length-replicate}
+use Rattle.ground.specs.declared.Refusal.{Refusal}
+use Rattle.ground.specs.Refusal.{ACCEPTED}
 use Rattle.ground.specs.Answer.{number_of, counted, kept, written, fill_no, fill_leaves}
 use Rattle.ground.proofs.Answers.{counted-says-number}
 use Rattle.report.specs.declared.Reader.{Reader}
@@ -22,16 +24,16 @@ use Rattle.report.proofs.Counts.{rest_is_report}
 
 -- ---- what a call wrote, by its number
 
-wrote_all : (text out : List ℕ) → written_by (counted 0 (length text)) (kept 0 (written text out) out) ≡ text
+wrote_all : (text out : List ℕ) → written_by (counted ACCEPTED (length text)) (kept ACCEPTED (written text out) out) ≡ text
 wrote_all text out = take_at text _ (length text) refl
 
 writes_text : (room : ℕ) (text : List ℕ) {t : List ℕ} → Writes (text_answer room text) (fill_leaves room text) t → t ≡ text
 writes_text room text {t} w =
     let o = w.out in
-    let n : fill_no room o ≡ 0 = sym (counted-says-number (fill_no room o) (length text)) ∙ ap number_of (sym w.answers) ∙ w.accepted in
+    let n : fill_no room o ≡ ACCEPTED = sym (counted-says-number (fill_no room o) (length text)) ∙ ap number_of (sym w.answers) ∙ w.accepted in
     w.text
     ∙ ap₂ written_by w.answers w.leaves
-    ∙ ap (λ (k : ℕ). written_by (counted k (length text)) (kept k (written text o) o)) n
+    ∙ ap (λ (k : Option Refusal). written_by (counted k (length text)) (kept k (written text o) o)) n
     ∙ wrote_all text o
 
 -- ---- a run of calls
@@ -41,13 +43,13 @@ abbrev rest_of : Reader → List (List ℕ) → List ℕ
 rest_of s parts = rest_text teller (counts_of s) (answers_over (line_of s) parts)
 
 -- a feed, accepted or refused, in front of what is written behind it
-feed-rest : (no : ℕ) (s : Reader) (part out : List ℕ) (parts : List (List ℕ))
+feed-rest : (no : Option Refusal) (s : Reader) (part out : List ℕ) (parts : List (List ℕ))
     → written_by (counted no (length (feed_text s part))) (kept no (written (feed_text s part) out) out) ++ rest_of (kept no (feed_reader s part) s) parts
     ≡ rest_of s (kept no (part ∷ parts) parts)
-feed-rest zero s part out parts =
+feed-rest None s part out parts =
     ap (λ (t : List ℕ). t ++ rest_of (feed_reader s part) parts) (wrote_all (feed_text s part) out)
     ∙ rest-append teller (counts_of s) (answers_in (line_of s) part) (answers_over (line_after (line_of s) part) parts)
-feed-rest (suc k) s part out parts = refl
+feed-rest (Some k) s part out parts = refl
 
 -- what the calls write, and at the end, is the report's rest for the answers to the lines of the parts that are taken
 run_text : {s s' : Reader} {calls : List Call} {t : List ℕ} → Run s calls t s' → t ++ close_text s' ≡ rest_of s (taken calls)
@@ -79,7 +81,7 @@ same_text e w p q =
 
 -- ---- there is a run for any calls, and calls for any cutting
 
-has_room : (room : ℕ) → fill_no {A = ℕ} room (replicate room 0) ≡ 0
+has_room : (room : ℕ) → fill_no {A = ℕ} room (replicate room 0) ≡ ACCEPTED
 has_room room = room-there room (replicate room 0) (omega (arith, length-replicate {A = ℕ} room 0))
 
 writes_exist : (room : ℕ) (text : List ℕ) → (t : List ℕ) × Writes (text_answer room text) (fill_leaves room text) t
@@ -122,5 +124,5 @@ any_parts_taken [] = ([], refl)
 any_parts_taken (part ∷ parts) =
     let r = any_parts_taken parts in (
       record { part = part; out = replicate (part_room part) 0 } ∷ r.0,
-      ap (λ (k : ℕ). kept k (part ∷ taken r.0) (taken r.0)) (has_room (part_room part)) ∙ ap (λ (l : List (List ℕ)). part ∷ l) r.1,
+      ap (λ (k : Option Refusal). kept k (part ∷ taken r.0) (taken r.0)) (has_room (part_room part)) ∙ ap (λ (l : List (List ℕ)). part ∷ l) r.1,
     )

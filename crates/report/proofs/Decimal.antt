@@ -1,5 +1,5 @@
 -- The digits that `io` writes are those of the report, at most 20 for a number of 64 bits. Assumes nothing.
-use Rattle.std.proofs.Common.{◌≡◌, ℕ, zero, suc, ◌+◌, ◌-◌, ◌*◌, ◌/◌, ◌%◌, ◌^◌, ◌<◌, ◌≤◌, Bool, true, false, cond, ltb, List, [], ◌∷◌, ◌++◌, length, ap, ◌∙◌, subst, not-suc-le-zero, pow-suc, arith, length-append, le-ltb, lt-ltb}
+use Rattle.std.proofs.Common.{◌≡◌, ℕ, zero, suc, ◌+◌, ◌-◌, ◌*◌, ◌/◌, ◌%◌, ◌^◌, ◌<◌, ◌≤◌, List, [], ◌∷◌, ◌++◌, ap, ◌∙◌, subst, not-suc-le-zero, pow-suc, arith, le-ltb, lt-ltb}
 use mathlib.Core.Path.{subst⁻¹}
 use native.Mathlib.Nat.{one-le-pow, pow-le-pow_right}
 use Rattle.io.specs.Digits.{last_digits, hex_digit_ascii, IsDigitCount}
@@ -38,17 +38,3 @@ fewest_20 n k h f =
 pub digits_are_decimal : (n k : ℕ) → k ≤ 20 → IsDigitCount 10 1 n k → last_digits 10 k n ≡ decimal n
 unfolding decimal
 digits_are_decimal n k h f = digits_decimal 20 k n h f.0 f.1 f.2
-
-at_most : (t : Bool) (a b : List ℕ) (k : ℕ) → length a ≤ k → length b ≤ k → length (cond t a b) ≤ k
-at_most true a b k p q = p
-at_most false a b k p q = q
-
-decimal_by-length : (f n : ℕ) → length (decimal_by f n) ≤ f
-decimal_by-length zero n = omega arith
-decimal_by-length (suc f) n =
-    at_most (ltb n 10) ((48 + n) ∷ []) (decimal_by f (n / 10) ++ ((48 + n % 10) ∷ [])) (suc f) (omega arith)
-    (simp length-append (omega (arith, decimal_by-length f (n / 10))))
-
-pub decimal-length : (n : ℕ) → length (decimal n) ≤ 20
-unfolding decimal
-decimal-length n = decimal_by-length 20 n

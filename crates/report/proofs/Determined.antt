@@ -1,8 +1,8 @@
 -- Two results that meet the promise of one call of the report are equal, and so is what they leave in the lent output.
 -- Assumes nothing.
-use Rattle.std.proofs.Common.{ℕ, List}
+use Rattle.std.proofs.Common.{ℕ, List, Result}
 use Rattle.ground.proofs.Answers.{OneAnswer, one_answer, OneResult, one-result}
-use Rattle.tps.specs.declared.word.Unpacked.{Unpacked}
+use Rattle.tps.specs.declared.word.MendedWord.{MendedWord}
 use Rattle.report.specs.declared.Reader.{Reader}
 use Rattle.report.specs.Reading.{read_answer}
 use Rattle.report.specs.Stream.{fresh}
@@ -14,7 +14,7 @@ read_line_determined line = one_answer (read_answer line)
 pub put_heading_determined : (out : List ℕ) → OneResult (heading_answer out) (heading_leaves out)
 put_heading_determined out = one-result (heading_answer out) (heading_leaves out)
 
-pub put_line_determined : (number : ℕ) (answer : Unpacked) (out : List ℕ) → OneResult (line_answer number answer out) (line_leaves number answer out)
+pub put_line_determined : (number : ℕ) (answer : Result MendedWord ℕ) (out : List ℕ) → OneResult (line_answer number answer out) (line_leaves number answer out)
 put_line_determined number answer out = one-result (line_answer number answer out) (line_leaves number answer out)
 
 pub new_determined : OneAnswer fresh

@@ -1,21 +1,20 @@
 -- Document 01's examples: an empty input, and the sample. Assumes nothing.
-use Rattle.std.proofs.Common.{◌≡◌, ℕ, ◌≤◌, true, List, [], ◌∷◌, ◌++◌, map, length, replicate, refl, ap, arith}
-use Rattle.ground.specs.Refusal.{BAD_LINE, NO_WORD}
+use Rattle.std.proofs.Common.{Some, None, Err, ◌≡◌, ℕ, ◌≤◌, true, List, [], ◌∷◌, ◌++◌, map, length, replicate, refl, ap, arith}
+use Rattle.ground.specs.declared.Refusal.TheVariants.{BadLine, NoWord}
 use Rattle.ground.specs.Bits.{are_bits}
 use Rattle.ground.specs.Digits.{digits_of}
 use Rattle.bch.specs.Polynomial.{division_step}
 use Rattle.bch.specs.Code.{Codeword, distance}
-use Rattle.bch.specs.NearCodeword.{Near, found, none, near_of}
+use Rattle.bch.specs.NearCodeword.{Near, near_of}
 use Rattle.bch.specs.Promise.{mended_at}
 use Rattle.bch.proofs.Facts.{three, three_lone}
 use Rattle.bch.proofs.NearCodeword.{near_is, lone_none}
 use Rattle.ground.proofs.Bits.{bits_of_lem}
-use Rattle.tps.specs.declared.word.Unpacked.{Unpacked}
-use Rattle.tps.specs.declared.word.Unpacked.TheVariants.{Word, Refused}
+use Rattle.tps.specs.Packing.{Unpacked}
 use Rattle.ground.specs.declared.ConstellationOrder.TheVariants.{Qpsk}
 use Rattle.tps.specs.declared.word.PunctureRate.TheVariants.{R1_2}
 use Rattle.tps.specs.declared.word.GuardInterval.TheVariants.{G1_32}
-use Rattle.tps.specs.Packing.{near_answer, unpack_answer}
+use Rattle.tps.specs.Packing.{mended_word, near_answer, unpack_answer}
 use Rattle.report.specs.Characters.{characters}
 use Rattle.report.specs.Reading.{is_digit, digit_value, read_answer}
 use Rattle.report.specs.Text.{decimal, hexadecimal, cell_text, points_text, rate_text, guard_text, mended_text, line_text, heading, closing}
@@ -60,13 +59,13 @@ generator-codeword = record { size = refl; bits = bits_of_lem (replicate 52 0 ++
 
 -- the word that each accepted line of the sample says, with the places that were mended
 abbrev plain : List ℕ → Unpacked
-plain ps = Word (record { frame_number = 0; constellation = Qpsk; code_rate_hp = R1_2; guard = G1_32; cell_id = 0 }) (mended_at ps)
+plain ps = mended_word (record { frame_number = 0; constellation = Qpsk; code_rate_hp = R1_2; guard = G1_32; cell_id = 0 }) (mended_at ps)
 
 -- s67 alone
 abbrev last : List ℕ
 last = 66 ∷ []
 
-near-answer : (w c : List ℕ) → are_bits w ≡ true → length w ≡ 67 → Codeword c → distance c w ≤ 2 → near_answer (near_of w) w ≡ near_answer (found c) w
+near-answer : (w c : List ℕ) → are_bits w ≡ true → length w ≡ 67 → Codeword c → distance c w ≤ 2 → near_answer (near_of w) w ≡ near_answer (Some c) w
 near-answer w c b l h d = ap (λ (n : Near). near_answer n w) (near_is w (bits_of_lem w b) l c h d)
 
 line_1 : read_answer word_1 ≡ plain []
@@ -78,14 +77,14 @@ unfolding read_answer is_digit digit_value unpack_answer zeros
 line_2 = near-answer (replicate 66 0 ++ (1 ∷ [])) zeros refl refl zeros-codeword (omega arith)
 
 -- small fact 6: the bits with only the degrees 7, 3 and 0 set are NO WORD
-three-none : near_of three ≡ none
+three-none : near_of three ≡ None
 three-none = lone_none three three_lone
 
-line_3 : read_answer word_3 ≡ Refused NO_WORD
+line_3 : read_answer word_3 ≡ Err NoWord
 unfolding read_answer is_digit digit_value unpack_answer
 line_3 = ap (λ (n : Near). near_answer n three) three-none
 
-line_4 : read_answer word_4 ≡ Refused BAD_LINE
+line_4 : read_answer word_4 ≡ Err BadLine
 unfolding read_answer
 line_4 = refl
 
@@ -102,9 +101,9 @@ five-answers :
     → map read_answer (l₁ ∷ l₂ ∷ l₃ ∷ l₄ ∷ l₅ ∷ []) ≡ a₁ ∷ a₂ ∷ a₃ ∷ a₄ ∷ a₅ ∷ []
 five-answers l₁ l₂ l₃ l₄ l₅ a₁ a₂ a₃ a₄ a₅ e₁ e₂ e₃ e₄ e₅ = rw (e₁, e₂, e₃, e₄, e₅) refl
 
-sample-answers : answers sample ≡ plain [] ∷ plain last ∷ Refused NO_WORD ∷ Refused BAD_LINE ∷ plain last ∷ []
+sample-answers : answers sample ≡ plain [] ∷ plain last ∷ Err NoWord ∷ Err BadLine ∷ plain last ∷ []
 sample-answers =
-    five-answers word_1 word_2 word_3 word_4 word_5 (plain []) (plain last) (Refused NO_WORD) (Refused BAD_LINE) (plain last) line_1 line_2 line_3 line_4 line_5
+    five-answers word_1 word_2 word_3 word_4 word_5 (plain []) (plain last) (Err NoWord) (Err BadLine) (plain last) line_1 line_2 line_3 line_4 line_5
 
 pub sample-report :
     report sample

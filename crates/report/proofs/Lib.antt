@@ -9,7 +9,6 @@ pub mod Lines
 pub mod LineEnds
 pub mod Counts
 pub mod Calls
-pub mod Parts
 pub mod Cutting
 pub mod Determined
 pub mod Facts

@@ -1,7 +1,7 @@
 -- However an input is cut into parts, the lines that end in them and at its end are answered as the lines of the whole
 -- input. Assumes nothing.
 use Rattle.std.proofs.Common.{◌≡◌, ℕ, Bool, true, false, cond, eqb, List, [], ◌∷◌, ◌++◌, map, sym, refl, ap, ◌∙◌, ap₂, append_assoc, append-nil, arith, eq-eqb, ne_eqb}
-use Rattle.tps.specs.declared.word.Unpacked.{Unpacked}
+use Rattle.tps.specs.Packing.{Unpacked}
 use Rattle.report.specs.declared.inner.OpenLine.{OpenLine}
 use Rattle.report.specs.Reading.{read_answer}
 use Rattle.report.specs.Lines.{before, lines, answers}

@@ -1,17 +1,17 @@
 -- A report that a teller tells, for two lists of answers in turn, for a part of the input that is taken line by line, and
 -- for an input in parts. Assumes nothing.
-use Rattle.std.proofs.Common.{◌≡◌, ℕ, ◌+◌, ◌*◌, ◌<◌, ◌≤◌, true, false, List, [], ◌∷◌, ◌++◌, length, sym, refl, ap, ◌∙◌, append_assoc, arith}
-use Rattle.tps.specs.declared.word.Unpacked.{Unpacked}
+use Rattle.std.proofs.Common.{◌≡◌, ℕ, ◌+◌, ◌*◌, ◌<◌, ◌≤◌, List, [], ◌∷◌, ◌++◌, length, get_or, sym, refl, ap, ◌∙◌, append_assoc, arith}
+use Rattle.tps.specs.Packing.{Unpacked}
 use Rattle.report.specs.declared.inner.OpenLine.{OpenLine}
-use Rattle.report.specs.declared.inner.Taken.{Taken}
+use Rattle.report.specs.declared.inner.Text.{Text}
 use Rattle.report.specs.Lines.{answers}
-use Rattle.report.specs.OpenLine.{open_line, empty_line, open_answer, answers_in, line_after, last_answers, answers_over, joined}
+use Rattle.report.specs.OpenLine.{open_line, grown, empty_line, open_answer, answers_in, line_after, last_answers, answers_over, joined}
 use Rattle.report.specs.Telling.{Teller, kept_after, text_over, rest_text}
-use Rattle.report.specs.Calls.{line_room, part_room}
-use Rattle.report.specs.Inner.{Put, EndsBy}
-use Rattle.report.proofs.Texts.{put-none, put_then, put-length}
+use Rattle.report.specs.Calls.{line_room}
+use Rattle.report.specs.Inner.{Puts, EndsBy, PartTold}
+use Rattle.report.proofs.Texts.{puts_none, puts_then}
 use Rattle.report.proofs.Lines.{parts_answers}
-use Rattle.report.proofs.LineEnds.{Takes, Passed, none_passed, take_moves, ended_passed, open_passed, all_passed}
+use Rattle.report.proofs.LineEnds.{Passed, none_passed, ended_passed, open_passed, all_passed}
 
 module _ {Kept : Type 0} (t : Teller Kept) where
   -- ---- two lists in turn
@@ -48,57 +48,51 @@ module _ {Kept : Type 0} (t : Teller Kept) where
   pub told_in_parts : (k : Kept) (parts : List (List ℕ)) → tell_parts empty_line k parts ≡ rest_text t k (answers (joined parts))
   told_in_parts k parts = tells-over empty_line k parts ∙ ap (rest_text t k) (parts_answers parts)
 
-  -- ---- a part, line by line
+  -- ---- a part, character by character
 
   -- with i characters of the part behind it, the line l is open, k is kept, and what is told of those that ended is
   -- written
-  pub record ReachedBy (l₀ : OpenLine) (k₀ : Kept) (part out₀ : List ℕ) (i : ℕ) (l : OpenLine) (k : Kept) (out : List ℕ) (at : ℕ) : Type 0 where
+  pub record Reached (l₀ : OpenLine) (k₀ : Kept) (part : List ℕ) (s₀ : Text) (i : ℕ) (l : OpenLine) (k : Kept) (s : Text) : Type 0 where
     pub answers : List Unpacked
     pub passed : Passed l₀ part i l answers
     pub kept : k ≡ kept_after t k₀ answers
-    pub put : Put out₀ 0 (text_over t k₀ answers) out at
-    pub room : at ≤ line_room * i
-    pub same : length out ≡ length out₀
+    pub put : Puts s₀ (text_over t k₀ answers) s
+    pub room : s.len ≤ s₀.len + line_room * i
+    pub size : length s.out.now ≡ length s₀.out.now
 
-  pub reached_start : (l : OpenLine) (k : Kept) (part out : List ℕ) → ReachedBy l k part out 0 l k out 0
-  reached_start l k part out =
-      record { answers = []; passed = none_passed l part; kept = refl; put = put-none out 0; room = omega arith; same = refl }
+  pub reached_start : (l : OpenLine) (k : Kept) (part : List ℕ) (s : Text) → Reached l k part s 0 l k s
+  reached_start l k part s =
+      record { answers = []; passed = none_passed l part; kept = refl; put = puts_none s; room = omega arith; size = refl }
 
-  module _ {l₀ l : OpenLine} {k₀ k : Kept} {part out₀ out : List ℕ} {i at : ℕ} (r : ReachedBy l₀ k₀ part out₀ i l k out at) where
-    module _ (h : i < length part) {n : Taken} {held : List ℕ} (e : Takes l part i n held) where
-      pub reached_open : n.ended ≡ false → ReachedBy l₀ k₀ part out₀ n.next (open_line held n.count) k out at
-      reached_open q =
-          record {
-            answers = r.answers;
-            passed = open_passed r.passed e q;
-            kept = r.kept;
-            put = r.put;
-            room = omega (arith, r.room, take_moves r.passed e h);
-            same = r.same;
-          }
+  module _ {l₀ l : OpenLine} {k₀ k : Kept} {part : List ℕ} {s₀ s : Text} {i : ℕ} (r : Reached l₀ k₀ part s₀ i l k s) where
+    pub reached_open : i < length part → (get_or part i 0 ≡ 10 → ⊥) → Reached l₀ k₀ part s₀ (i + 1) (grown l (get_or part i 0)) k s
+    reached_open h e =
+        record {
+          answers = r.answers;
+          passed = open_passed r.passed h e;
+          kept = r.kept;
+          put = r.put;
+          room = omega (arith, r.room);
+          size = r.size;
+        }
 
-      module _ (q : n.ended ≡ true) where
-        pub line_room_lem : part_room part ≤ length out₀ → at + line_room ≤ length out
-        line_room_lem j = omega (arith, r.room, r.same, take_moves r.passed e h, (ended_passed r.passed e q).within)
-
-        pub reached_ended : {k' : Kept} {out' : List ℕ} {at' : ℕ} → EndsBy t (open_line held n.count) k out at k' out' at'
-            → ReachedBy l₀ k₀ part out₀ n.next (open_line held 0) k' out' at'
-        reached_ended {k'} {out'} {at'} g =
-            let a = open_answer (open_line held n.count) in
-            let w = put_then r.put (put_then g.written (put-none out' at')) in
-            let p : Put out₀ 0 (text_over t k₀ (r.answers ++ (a ∷ []))) out' at' = rw (text-append k₀ r.answers (a ∷ []), ← r.kept) w in
-            record {
-              answers = r.answers ++ (a ∷ []);
-              passed = ended_passed r.passed e q;
-              kept = rw (kept_append k₀ r.answers (a ∷ []), ← r.kept) g.kept;
-              put = p;
-              room = omega (arith, r.room, g.room, take_moves r.passed e h);
-              same = put-length p;
-            }
+    pub reached_ended : i < length part → get_or part i 0 ≡ 10 → {k' : Kept} {s' : Text} → EndsBy t (open_answer l) k s k' s'
+        → Reached l₀ k₀ part s₀ (i + 1) (open_line l.held 0) k' s'
+    reached_ended h e {k'} {s'} g =
+        let a = open_answer l in
+        let p : Puts s₀ (text_over t k₀ (r.answers ++ (a ∷ []))) s' =
+        rw (text-append k₀ r.answers (a ∷ []), ← r.kept) (puts_then r.put (puts_then g.written (puts_none s'))) in
+        record {
+          answers = r.answers ++ (a ∷ []);
+          passed = ended_passed r.passed h e;
+          kept = rw (kept_append k₀ r.answers (a ∷ []), ← r.kept) g.kept;
+          put = p;
+          room = omega (arith, r.room, g.room);
+          size = p.size;
+        }
 
     -- the whole part
-    pub reached_end : length part ≤ i
-        → (l ≡ line_after l₀ part) × (k ≡ kept_after t k₀ (answers_in l₀ part)) × Put out₀ 0 (text_over t k₀ (answers_in l₀ part)) out at × (at ≤ part_room part)
+    pub reached_end : length part ≡ i → PartTold t l₀ k₀ part s₀ l k s
     reached_end h =
-        let e = all_passed r.passed h in
-        (sym e.1, rw e.0 r.kept, rw e.0 r.put, omega (arith, r.room, r.passed.within))
+        let e = all_passed r.passed (omega arith) in
+        record { line = sym e.1; kept = rw e.0 r.kept; written = rw e.0 r.put; room = omega (arith, r.room) }

@@ -1,8 +1,10 @@
 -- Texts that are written into a lent slice, one behind the other. Assumes nothing.
-use Rattle.std.proofs.Common.{◌≡◌, ℕ, suc, ◌+◌, ◌<◌, ◌≤◌, List, [], ◌∷◌, ◌++◌, length, get_or, take, drop, set, sym, refl, ap, ◌∙◌, append-nil, add-zero, zero-add, add-one, arith, length-append, length-take, take-suc}
-use lib.Seq.{sets, length-sets, sets-eq, drop-length}
+use Rattle.std.proofs.Common.{append_assoc, drop-drop, ◌≡◌, ℕ, suc, ◌+◌, ◌≤◌, List, [], ◌∷◌, ◌++◌, length, drop, set, sym, refl, ap, ◌∙◌, append-nil, add-zero, zero-add, arith, length-append}
+use lib.Seq.{sets, sets-eq, drop-length}
+use borrow.Rule.Slice.PartMut.{put_mid}
 use Rattle.ground.specs.Answer.{written}
-use Rattle.report.specs.Inner.{Put}
+use Rattle.report.specs.declared.inner.Text.{Text}
+use Rattle.report.specs.Inner.{Puts}
 
 pub sets_append : (o : List ℕ) (i : ℕ) (t u : List ℕ) → sets o i (t ++ u) ≡ sets (sets o i t) (i + length t) u
 sets_append o i [] u = ap (λ (k : ℕ). sets o k u) (sym (add-zero i))
@@ -10,11 +12,9 @@ sets_append o i (v ∷ t) u =
     let e : suc i + length t ≡ i + suc (length t) = omega arith in
     sets_append (set o i v) (suc i) t u ∙ ap (λ (k : ℕ). sets (sets (set o i v) (suc i) t) k u) e
 
--- one store more
-pub sets_turn : (o : List ℕ) (at : ℕ) (t : List ℕ) (i : ℕ) → i < length t → set (sets o at (take i t)) (at + i) (get_or t i 0) ≡ sets o at (take (i + 1) t)
-sets_turn o at t i h =
-    let e : length (take i t) ≡ i = simp length-take (omega arith) in
-    sym (rw (add-one i, take-suc t i 0 h, sets_append o at (take i t) (get_or t i 0 ∷ []), e) refl)
+-- a part that is written over
+pub part-sets : (o t : List ℕ) (at k : ℕ) → at + length t ≤ length o → k ≡ length t → put_mid at k o t ≡ sets o at t
+part-sets o t at k h e = rw (e, sets-eq t o at h) (simp (drop-drop, append_assoc))
 
 -- from the front on
 pub sets_written : (o t : List ℕ) → length t ≤ length o → sets o 0 t ≡ written t o
@@ -27,24 +27,15 @@ sets_whole o t e =
 
 -- ---- a text in its place
 
-pub put-none : (o : List ℕ) (at : ℕ) → Put o at [] o at
-put-none o at = record { list = refl; next = omega arith }
+pub puts_none : (s : Text) → Puts s [] s
+puts_none s = record { same = refl; list = refl; next = omega arith; size = refl }
 
 -- a text, and another behind it
-pub put_then : {o o₁ o₂ t u : List ℕ} {at r₁ r₂ : ℕ} → Put o at t o₁ r₁ → Put o₁ r₁ u o₂ r₂ → Put o at (t ++ u) o₂ r₂
-put_then {o} {o₁} {o₂} {t} {u} {at} {r₁} p q =
+pub puts_then : {s s₁ s₂ : Text} {t u : List ℕ} → Puts s t s₁ → Puts s₁ u s₂ → Puts s (t ++ u) s₂
+puts_then {s} {s₁} {s₂} {t} {u} p q =
     record {
-      list =
-          q.list
-          ∙ ap (λ (l : List ℕ). sets l r₁ u) p.list
-          ∙ ap (λ (k : ℕ). sets (sets o at t) k u) p.next
-          ∙ sym (sets_append o at t u);
+      same = q.same ∙ p.same;
+      list = q.list ∙ rw (p.list, p.next) (sym (sets_append s.out.now s.len t u));
       next = simp length-append (omega (arith, p.next, q.next));
+      size = q.size ∙ p.size;
     }
-
-pub put-length : {o o₁ t : List ℕ} {at r : ℕ} → Put o at t o₁ r → length o₁ ≡ length o
-put-length {o} {o₁} {t} {at} p = ap length p.list ∙ length-sets o at t
-
--- a text at the front of an output that has the room
-pub put_written : {o o₁ t : List ℕ} {r : ℕ} → Put o 0 t o₁ r → r ≤ length o → o₁ ≡ written t o
-put_written {o} {o₁} {t} p h = p.list ∙ sets_written o t (omega (arith, p.next))

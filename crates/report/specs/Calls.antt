@@ -1,9 +1,9 @@
 -- Document 01, 'Report program' and 'Refusal numbers': what the calls of the report answer and leave. Each is OUTPUT
 -- SHORT where the lent output has less than the room for any text of its kind.
-use Rattle.std.specs.Prelude.{ℕ, ◌*◌, List, length}
+use Rattle.std.specs.Prelude.{ℕ, ◌*◌, List, length, Option, Result}
+use Rattle.ground.specs.declared.Refusal.{Refusal}
 use Rattle.ground.specs.Answer.{counted, kept, fill_no, fill_answer, fill_leaves}
-use Rattle.ground.specs.declared.Counted.{Counted}
-use Rattle.tps.specs.declared.word.Unpacked.{Unpacked}
+use Rattle.tps.specs.declared.word.MendedWord.{MendedWord}
 use Rattle.report.specs.declared.Reader.{Reader}
 use Rattle.report.specs.declared.Fed.{Fed}
 use Rattle.report.specs.Text.{heading, line_text}
@@ -11,7 +11,7 @@ use Rattle.report.specs.Stream.{feed_text, feed_reader, close_text}
 
 -- ---- the heading
 
-abbrev pub heading_answer : List ℕ → Counted
+abbrev pub heading_answer : List ℕ → Result ℕ Refusal
 heading_answer out = fill_answer (length heading) out
 
 abbrev pub heading_leaves : List ℕ → List ℕ
@@ -22,13 +22,13 @@ heading_leaves out = fill_leaves (length heading) heading out
 abbrev pub line_room : ℕ
 line_room = 60
 
-abbrev pub line_no : List ℕ → ℕ
+abbrev pub line_no : List ℕ → Option Refusal
 line_no out = fill_no line_room out
 
-abbrev pub line_answer : ℕ → Unpacked → List ℕ → Counted
+abbrev pub line_answer : ℕ → Result MendedWord ℕ → List ℕ → Result ℕ Refusal
 line_answer n a out = counted (line_no out) (length (line_text n a))
 
-abbrev pub line_leaves : ℕ → Unpacked → List ℕ → List ℕ
+abbrev pub line_leaves : ℕ → Result MendedWord ℕ → List ℕ → List ℕ
 line_leaves n a out = fill_leaves line_room (line_text n a) out
 
 -- ---- a part of the input: each of its characters may end a line
@@ -36,7 +36,7 @@ line_leaves n a out = fill_leaves line_room (line_text n a) out
 abbrev pub part_room : List ℕ → ℕ
 part_room part = line_room * length part
 
-abbrev pub feed_no : List ℕ → List ℕ → ℕ
+abbrev pub feed_no : List ℕ → List ℕ → Option Refusal
 feed_no part out = fill_no (part_room part) out
 
 abbrev pub feed_answer : Reader → List ℕ → List ℕ → Fed
@@ -54,10 +54,10 @@ feed_leaves s part out = fill_leaves (part_room part) (feed_text s part) out
 abbrev pub close_room : ℕ
 close_room = 2 * line_room
 
-abbrev pub close_no : List ℕ → ℕ
+abbrev pub close_no : List ℕ → Option Refusal
 close_no out = fill_no close_room out
 
-abbrev pub close_answer : Reader → List ℕ → Counted
+abbrev pub close_answer : Reader → List ℕ → Result ℕ Refusal
 close_answer s out = counted (close_no out) (length (close_text s))
 
 abbrev pub close_leaves : Reader → List ℕ → List ℕ

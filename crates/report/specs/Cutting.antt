@@ -1,9 +1,9 @@
 -- Document 01, 'Report program': an input that is read in parts. Each call's output is any; a feed whose output has
 -- less than the room is refused, which changes nothing, and its part may be fed again, or in smaller parts.
-use Rattle.std.specs.Prelude.{◌≡◌, ℕ, List, [], ◌∷◌, ◌++◌, take}
+use Rattle.std.specs.Prelude.{◌≡◌, ℕ, List, [], ◌∷◌, ◌++◌, take, Result}
+use Rattle.ground.specs.declared.Refusal.{Refusal}
 use Rattle.ground.specs.Refusal.{ACCEPTED}
 use Rattle.ground.specs.Answer.{number_of, count_of, kept}
-use Rattle.ground.specs.declared.Counted.{Counted}
 use Rattle.report.specs.declared.Reader.{Reader}
 use Rattle.report.specs.declared.Fed.{Fed}
 use Rattle.report.specs.Stream.{fresh}
@@ -11,14 +11,14 @@ use Rattle.report.specs.Calls.{heading_answer, heading_leaves, feed_no, feed_ans
 use Rattle.report.specs.Calls.{close_leaves}
 
 -- what a call wrote that answered so and left its output so: as many bytes as it says, and none where it was refused
-abbrev pub written_by : Counted → List ℕ → List ℕ
+abbrev pub written_by : Result ℕ Refusal → List ℕ → List ℕ
 written_by answer left = take (count_of answer) left
 
 -- a call that was accepted and keeps its promise, which says its answer and what it leaves for each output, and what
 -- it wrote
-pub record Writes (answerFor : List ℕ → Counted) (leavesFor : List ℕ → List ℕ) (t : List ℕ) : Type 0 where
+pub record Writes (answerFor : List ℕ → Result ℕ Refusal) (leavesFor : List ℕ → List ℕ) (t : List ℕ) : Type 0 where
   pub out : List ℕ
-  pub answer : Counted
+  pub answer : Result ℕ Refusal
   pub left : List ℕ
   pub answers : answer ≡ answerFor out
   pub leaves : left ≡ leavesFor out

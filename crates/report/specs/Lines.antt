@@ -1,7 +1,7 @@
 -- Document 01, 'Report program': a line ends at a newline or the end of input; an empty line counts, no line follows a
 -- final newline. A line may have any length, and every character but the newline stands for itself.
 use Rattle.std.specs.Prelude.{ℕ, cond, List, [], ◌∷◌, ◌++◌, map, ◌==◌}
-use Rattle.tps.specs.declared.word.Unpacked.{Unpacked}
+use Rattle.tps.specs.Packing.{Unpacked}
 use Rattle.report.specs.Characters.{newline}
 use Rattle.report.specs.Reading.{read_answer}
 

@@ -1,13 +1,11 @@
 -- Document 01, 'Report program': the line that is open in an input that comes in parts of any size. Its first 17
 -- characters are held, and its characters are counted up to 18. That the lines that end in the parts are answered as
 -- those of the whole input is the theorem `parts-answers`.
-use Rattle.std.specs.Prelude.{ℕ, ◌+◌, Bool, true, false, cond, List, [], ◌∷◌, ◌++◌, drop, replicate, ◌==◌}
-use Rattle.std.specs.Prelude.{nat_lt, slice_set}
-use Rattle.ground.specs.Refusal.{BAD_LINE}
-use Rattle.tps.specs.declared.word.Unpacked.{Unpacked}
-use Rattle.tps.specs.declared.word.Unpacked.TheVariants.{Refused}
+use Rattle.std.specs.Prelude.{ℕ, ◌+◌, cond, List, [], ◌∷◌, ◌++◌, replicate, ◌==◌}
+use Rattle.std.specs.Prelude.{nat_lt, slice_set, Err}
+use Rattle.ground.specs.declared.Refusal.TheVariants.{BadLine}
+use Rattle.tps.specs.Packing.{Unpacked}
 use Rattle.report.specs.declared.inner.OpenLine.{OpenLine}
-use Rattle.report.specs.declared.inner.Taken.{Taken}
 use Rattle.report.specs.Characters.{newline}
 use Rattle.report.specs.Reading.{read_answer}
 
@@ -28,7 +26,7 @@ grown l c = cond (nat_lt l.count 17) (open_line (slice_set l.held l.count c) (l.
 
 -- the answer to the line, where it ends here
 unfoldable pub open_answer : OpenLine → Unpacked
-open_answer l = cond (l.count == 17) (read_answer l.held) (Refused BAD_LINE)
+open_answer l = cond (l.count == 17) (read_answer l.held) (Err BadLine)
 
 -- ---- a part of the input
 
@@ -58,31 +56,3 @@ answers_over l (part ∷ parts) = answers_in l part ++ answers_over (line_after 
 abbrev pub joined : List (List ℕ) → List ℕ
 joined [] = []
 joined (p ∷ ps) = p ++ joined ps
-
--- ---- a part from a place on, up to the end of the line
-
--- the line there, the place behind it, and whether it ended
-pub record Split : Type 0 where
-  pub line : OpenLine
-  pub next : ℕ
-  pub ended : Bool
-
--- of characters that stand from the place `at` on
-abbrev pub split : OpenLine → ℕ → List ℕ → Split
-split l at [] = record { line = l; next = at; ended = false }
-split l at (c ∷ s) =
-    cond (c == newline) (record { line = l; next = at + 1; ended = true }) (split (grown l c) (at + 1) s)
-
-abbrev pub split_at : List ℕ → ℕ → List ℕ → ℕ → Split
-split_at held count part from = split (open_line held count) from (drop from part)
-
-abbrev pub take_answer : List ℕ → ℕ → List ℕ → ℕ → Taken
-take_answer held count part from =
-    record {
-      count = (split_at held count part from).line.count;
-      next = (split_at held count part from).next;
-      ended = (split_at held count part from).ended;
-    }
-
-abbrev pub take_leaves : List ℕ → ℕ → List ℕ → ℕ → List ℕ
-take_leaves held count part from = (split_at held count part from).line.held

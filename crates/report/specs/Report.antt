@@ -1,14 +1,14 @@
 -- Document 01, 'Report program': what is printed for a whole input.
 use Rattle.std.specs.Prelude.{ℕ, suc, ◌+◌, List, [], ◌∷◌, ◌++◌, length}
-use Rattle.tps.specs.declared.word.Unpacked.{Unpacked}
+use Rattle.tps.specs.Packing.{Unpacked}
 use Rattle.report.specs.Lines.{answers}
 use Rattle.report.specs.Reading.{refusals}
-use Rattle.report.specs.Text.{heading, line_text, closing}
+use Rattle.report.specs.Text.{heading, in_numbers, line_text, closing}
 
 -- the lines of answers, numbered from n on
 abbrev pub numbered : ℕ → List Unpacked → List ℕ
 numbered n [] = []
-numbered n (a ∷ r) = line_text n a ++ numbered (suc n) r
+numbered n (a ∷ r) = line_text n (in_numbers a) ++ numbered (suc n) r
 
 abbrev pub all_refusals : List Unpacked → ℕ
 all_refusals [] = 0

@@ -3,9 +3,10 @@
 use Rattle.std.specs.Prelude.{ℕ, ◌+◌, ◌%◌, ◌^◌, List, replicate}
 use Rattle.report.specs.declared.Reader.{Reader}
 use Rattle.report.specs.declared.inner.OpenLine.{OpenLine}
+use Rattle.report.specs.declared.stream.Counts.{Counts}
 use Rattle.report.specs.Reading.{refusals}
 use Rattle.report.specs.OpenLine.{open_line, answers_in, line_after, last_answers}
-use Rattle.report.specs.Text.{line_text, closing}
+use Rattle.report.specs.Text.{in_numbers, line_text, closing}
 use Rattle.report.specs.Telling.{Teller, kept_after, text_over, rest_text}
 
 -- ---- what the reader holds
@@ -20,11 +21,6 @@ line_of s = open_line s.held s.count
 abbrev pub plus : ℕ → ℕ → ℕ
 plus n k = (n + k) % 2 ^ 64
 
--- what is kept between lines: the counts of lines and of refused lines
-pub record Counts : Type 0 where
-  pub lines : ℕ
-  pub refused : ℕ
-
 abbrev pub counts_of : Reader → Counts
 counts_of s = record { lines = s.lines; refused = s.refused }
 
@@ -33,7 +29,7 @@ abbrev pub teller : Teller Counts
 teller =
     record {
       moved = λ k a. record { lines = plus k.lines 1; refused = plus k.refused (refusals a) };
-      text = λ k a. line_text (plus k.lines 1) a;
+      text = λ k a. line_text (plus k.lines 1) (in_numbers a);
       closing = λ k. closing k.lines k.refused;
     }
 

@@ -1,7 +1,7 @@
 -- Document 01, 'Report program', and document 02, E3: a report that is told line by line. What it keeps between lines
 -- is moved on by the answer to each line, each answer has a text, and behind the last line stands a closing text.
 use Rattle.std.specs.Prelude.{ℕ, List, [], ◌∷◌, ◌++◌}
-use Rattle.tps.specs.declared.word.Unpacked.{Unpacked}
+use Rattle.tps.specs.Packing.{Unpacked}
 
 pub record Teller (Kept : Type 0) : Type 0 where
   pub moved : Kept → Unpacked → Kept

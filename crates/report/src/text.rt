@@ -1,14 +1,14 @@
-// The texts of the report, each written into the lent output from a place on; the answer is the place behind it.
-ghost use Rattle.std.specs.Prelude.{◌≡◌, ◌+◌, ◌≤◌, [], ◌∷◌, length};
-ghost use Rattle.tps.specs.declared.word.Unpacked.TheVariants.{Word};
-ghost use Rattle.report.specs.Text.{line_text, mended_text, closing};
+// The lines of the report, and its closing line.
+ghost use Rattle.std.specs.Prelude.{◌≡◌, ◌+◌, ◌≤◌, [], ◌∷◌};
+ghost use Rattle.report.specs.Text.{mended_text, line_text, closing};
 ghost use Rattle.report.specs.Calls.{line_room};
-ghost use Rattle.report.specs.Inner.{Put, last_columns};
+ghost use Rattle.report.specs.Inner.{Room, Puts};
 
-use super::inner;
-use tps::{Mended, TpsWord, Unpacked};
+use super::inner::Text;
+use tps::MendedWord;
 
 // The digit of a count of mended bits.
+#[tactic(auto, unfolding(crate::specs::Text::mended_text))]
 fn mended_digit(count: u8) -> u8
     ensures { result ∷ [] ≡ mended_text count }
 {
@@ -19,55 +19,45 @@ fn mended_digit(count: u8) -> u8
     }
 }
 
-// Writes the columns of a cell id and of a count of mended bits, a space before each, and a newline.
-fn put_cell_and_mended(out: &mut [u8], at: usize, cell_id: u8, count: u8) -> usize
-    requires { at + 6 ≤ length out.old }
-    ensures text { Put out.old at (last_columns cell_id count) out.new result }
-    ensures room { result ≤ at + 6 }
-{
-    let high = inner::hexadecimal_digit(cell_id / 16);
-    let low = inner::hexadecimal_digit(cell_id % 16);
-    let digit = mended_digit(count);
-    inner::put(out, at, &[b' ', high, low, b' ', digit, b'\n'])
-}
-
-// Writes the line of a word.
-fn put_word(out: &mut [u8], at: usize, number: u64, word: TpsWord, mended: Mended) -> usize
-    requires { at + line_room ≤ length out.old }
-    ensures text { Put out.old at (line_text number (Word word mended)) out.new result }
-    ensures room { result ≤ at + line_room }
-{
-    let number_end = inner::put_decimal(out, at, number);
-    let frame_start = inner::put(out, number_end, b" ");
-    let frame_end = inner::put_decimal(out, frame_start, word.frame_number as u64);
-    let constellation = word.constellation;
-    let rate = word.code_rate_hp;
-    let guard = word.guard;
-    let guard_end = inner::put_columns(out, frame_end, constellation, rate, guard);
-    put_cell_and_mended(out, guard_end, word.cell_id, mended.count)
-}
-
-// Writes the line of an answer.
-pub(crate) fn put_answer(out: &mut [u8], at: usize, number: u64, answer: Unpacked) -> usize
-    requires { at + line_room ≤ length out.old }
-    ensures text { Put out.old at (line_text number answer) out.new result }
-    ensures room { result ≤ at + line_room }
-{
-    match answer {
-        Unpacked::Word(word, mended) => put_word(out, at, number, word, mended),
-        Unpacked::Refused(refusal) => inner::put_refused(out, at, number, refusal),
+impl Text<'_> {
+    // Writes the line of a word.
+    fn put_word(&mut self, number: u64, read: MendedWord)
+        requires { Room self.old line_room }
+        ensures text { Puts self.old (line_text number (Ok read)) self.new }
+        ensures room { self.new.len ≤ self.old.len + line_room }
+    {
+        let word = read.word;
+        self.put_decimal(number);
+        self.put(b" ");
+        self.put_decimal(u64::from(word.frame_number));
+        self.put_columns(word.constellation, word.code_rate_hp, word.guard);
+        self.put(b" ");
+        self.put_cell(word.cell_id);
+        self.put(&[b' ', mended_digit(read.mended.count), b'\n'])
     }
-}
 
-// Writes the closing line.
-pub(crate) fn put_closing(out: &mut [u8], at: usize, lines: u64, refused: u64) -> usize
-    requires { at + line_room ≤ length out.old }
-    ensures text { Put out.old at (closing lines refused) out.new result }
-    ensures room { result ≤ at + line_room }
-{
-    let lines_start = inner::put(out, at, b"read ");
-    let lines_end = inner::put_decimal(out, lines_start, lines);
-    let refused_start = inner::put(out, lines_end, b" refused ");
-    let refused_end = inner::put_decimal(out, refused_start, refused);
-    inner::put(out, refused_end, b"\n")
+    // Writes the line of an answer.
+    pub(crate) fn put_answer(&mut self, number: u64, answer: Result<MendedWord, u8>)
+        requires { Room self.old line_room }
+        ensures text { Puts self.old (line_text number answer) self.new }
+        ensures room { self.new.len ≤ self.old.len + line_room }
+    {
+        match answer {
+            Ok(read) => self.put_word(number, read),
+            Err(refusal) => self.put_refused(number, refusal),
+        }
+    }
+
+    // Writes the closing line.
+    pub(crate) fn put_closing(&mut self, lines: u64, refused: u64)
+        requires { Room self.old line_room }
+        ensures text { Puts self.old (closing lines refused) self.new }
+        ensures room { self.new.len ≤ self.old.len + line_room }
+    {
+        self.put(b"read ");
+        self.put_decimal(lines);
+        self.put(b" refused ");
+        self.put_decimal(refused);
+        self.put(b"\n")
+    }
 }

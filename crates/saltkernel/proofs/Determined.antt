@@ -3,10 +3,11 @@ use mathlib.Core.Path.{◌≡◌, sym, ap, ap₂, ◌∙◌}
 use mathlib.Core.List.{List}
 use Prim.Native.Nat.{ℕ}
 use Rattle.bch.specs.declared.Mended.{Mended}
-use Rattle.bch.specs.Promise.{decoded_number, mended_in}
+use Rattle.ground.specs.Refusal.{code}
+use Rattle.bch.specs.Promise.{Decoded, decoded_number, mended_in}
 use Rattle.bch.proofs.Determined.{decode_determined}
 use Rattle.tps.specs.declared.receiver.TpsDecoder.{TpsDecoder}
-use Rattle.tps.specs.declared.word.Unpacked.{Unpacked}
+use Rattle.tps.specs.Packing.{Unpacked}
 use Rattle.tps.specs.Packing as packing
 use Rattle.tps.specs.Receive as receive
 use Rattle.tps.proofs.Determined.{unpack_determined, word_determined}
@@ -26,7 +27,7 @@ one_unpacked meets one r q x y =
     let e : x.answer ≡ y.answer = one x.answer y.answer x.kept_promise y.kept_promise in
     let m = x.says.says_mended ∙ ap unpacked_mended e ∙ sym y.says.says_mended in
     ap₂ (λ (n : ℕ) (z : SaltTpsWord × Mended). record { number = n; word = z.0; mended = z.1.count; first = z.1.first; second = z.1.second })
-    (x.says.says_number ∙ ap packing.number_of e ∙ sym y.says.says_number)
+    (x.says.says_number ∙ ap (λ (a : Unpacked). code (packing.number_of a)) e ∙ sym y.says.says_number)
     (ap₂ (λ (w : SaltTpsWord) (m : Mended). (w, m)) (x.says.says_word ∙ ap unpacked_codes e ∙ sym y.says.says_word) m)
 
 pub salt_unpack_determined : (bits : List ℕ) (r q : SaltUnpacked) → SaysOneThat (packing.Unpacks bits) r → SaysOneThat (packing.Unpacks bits) q → r ≡ q
@@ -43,7 +44,7 @@ salt_decode_determined w o r q a b x y =
     let e = decode_determined w o a b x.answer y.answer x.decodes y.decodes in
     let m = x.says.says_mended ∙ ap mended_in e.0 ∙ sym y.says.says_mended in (
       ap₂ (λ (n : ℕ) (z : ℕ × Mended). record { number = n; count = z.0; mended = z.1.count; first = z.1.first; second = z.1.second })
-          (x.says.says_number ∙ ap decoded_number e.0 ∙ sym y.says.says_number)
+          (x.says.says_number ∙ ap (λ (a : Decoded). code (decoded_number a)) e.0 ∙ sym y.says.says_number)
           (ap₂ (λ (k : ℕ) (m : Mended). (k, m)) (x.says.says_count ∙ ap bits_written e.0 ∙ sym y.says.says_count) m),
       e.1,
     )

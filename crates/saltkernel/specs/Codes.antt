@@ -1,10 +1,9 @@
 -- Document 01, 'TPS' and 'Refusal numbers', and document 02, E1, over the C interface: the decoder's promise, with its
 -- answer as numbers; a refused call has no mended bit.
-use Rattle.std.specs.Prelude.{◌≡◌, List, ℕ}
+use Rattle.std.specs.Prelude.{◌≡◌, List, ℕ, Ok, Err}
+use Rattle.ground.specs.Refusal.{code}
 use Rattle.bch.specs.declared.Mended.{Mended}
-use Rattle.bch.specs.declared.Decoded.{Decoded}
-use Rattle.bch.specs.declared.Decoded.TheVariants.{Information, Refused}
-use Rattle.bch.specs.Promise.{decoded_number, mended_in, Decodes}
+use Rattle.bch.specs.Promise.{Decoded, decoded_number, mended_in, Decodes}
 use Rattle.saltkernel.specs.declared.codes.SaltDecoded.{SaltDecoded}
 
 -- mended bits by three numbers
@@ -13,12 +12,12 @@ mended_by count first second = record { count = count; first = first; second = s
 
 -- how many information bits an answer writes
 abbrev pub bits_written : Decoded → ℕ
-bits_written (Information m) = 53
-bits_written (Refused k) = 0
+bits_written (Ok mended) = 53
+bits_written (Err refusal) = 0
 
 -- the numbers are what the answer says
 pub record SaysDecoded (r : SaltDecoded) (a : Decoded) : Type 0 where
-  pub says_number : r.number ≡ decoded_number a
+  pub says_number : r.number ≡ code (decoded_number a)
   pub says_count : r.count ≡ bits_written a
   pub says_mended : mended_by r.mended r.first r.second ≡ mended_in a
 

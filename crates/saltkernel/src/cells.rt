@@ -9,5 +9,5 @@ use ground::Cell;
 pub extern "C" fn salt_cell_same(cell: Cell, other: Cell) -> u8
     ensures { result ≡ cond (same_cell cell other) 1 0 }
 {
-    if cell.same(other) { 1 } else { 0 }
+    u8::from(cell.same(other))
 }

@@ -6,7 +6,8 @@ ghost use Rattle.saltkernel.specs.Codes.{SaysDecoded, DecodesAs};
 
 use super::sizes::{NO_PLACE, TPS_INFORMATION_BITS};
 use super::{SaltCounted, numbers_of};
-use bch::{Decoded, Decoder};
+use bch::{Decoder, Mended};
+use ground::Refusal;
 
 // A count of information bits and the bits that were changed, or a refusal's number, the counts 0 and no place.
 #[repr(C)]
@@ -20,19 +21,19 @@ pub struct SaltDecoded {
 }
 
 // An answer of the decoder as numbers.
-fn decoded_numbers_of(answer: Decoded) -> SaltDecoded
+fn decoded_numbers_of(answer: Result<Mended, Refusal>) -> SaltDecoded
     ensures { SaysDecoded result answer }
 {
     match answer {
-        Decoded::Information(mended) => SaltDecoded {
+        Ok(mended) => SaltDecoded {
             number: 0,
             mended: mended.count,
             first: mended.first,
             second: mended.second,
             count: TPS_INFORMATION_BITS,
         },
-        Decoded::Refused(number) => SaltDecoded {
-            number,
+        Err(refusal) => SaltDecoded {
+            number: u8::from(refusal),
             mended: 0,
             first: NO_PLACE,
             second: NO_PLACE,

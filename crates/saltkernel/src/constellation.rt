@@ -1,12 +1,14 @@
 // Gray mapping, hard and soft demapping (4.3.5).
+ghost use Rattle.std.specs.Prelude.{◌≡◌};
 ghost use Rattle.gray.specs.Mapping.{map_answer};
 ghost use Rattle.gray.specs.Hard.{demap_answer, Demapped};
 ghost use Rattle.gray.specs.Soft.{soft_answer};
-ghost use Rattle.saltkernel.specs.Numbers.{Says, cell_of, SaysPoint, SaysSoft};
+ghost use Rattle.saltkernel.specs.Carriers.{SaysBoosted};
+ghost use Rattle.saltkernel.specs.Numbers.{Says, SaysPoint, SaysSoft};
 
-use super::{SaltCell, SaltCounted, SaltMapped, numbers_of, sizes};
-use gray::{Mapped, Soft};
-use ground::Cell;
+use super::{SaltCounted, SaltMapped, number_and, numbers_of, sizes};
+use gray::Soft;
+use ground::{Cell, Refusal};
 
 // The first `count` values, 2, 4 or 6, and +0.0 behind them; or a refusal's number, the count 0 and +0.0 throughout.
 #[repr(C)]
@@ -17,20 +19,14 @@ pub struct SaltSoft {
     pub values: [f32; sizes::SOFT_VALUES],
 }
 
-// A point as numbers.
-fn point_numbers_of(answer: Mapped) -> SaltMapped
-    ensures { SaysPoint result answer }
+// A point, or a pilot's value, as numbers.
+#[tactic(auto, unfolding(ground::specs::Cells::plus_zero))]
+pub(super) fn point_numbers_of(answer: Result<Cell, Refusal>) -> SaltMapped
+    ensures point { SaysPoint result answer }
+    ensures boosted { SaysBoosted result answer }
 {
-    match answer {
-        Mapped::Point(re, im) => SaltMapped {
-            number: 0,
-            point: SaltCell { re, im },
-        },
-        Mapped::Refused(number) => SaltMapped {
-            number,
-            point: SaltCell { re: 0.0, im: 0.0 },
-        },
-    }
+    let (number, point) = number_and(answer, Cell { re: 0.0, im: 0.0 });
+    SaltMapped { number, point }
 }
 
 // The point of a group of 2, 4 or 6 bits (QPSK, 16-QAM, 64-QAM): even bits, high first, index the I axis, odd bits the
@@ -47,44 +43,38 @@ pub extern "C" fn salt_dvb_t_map_symbol(bits: &[u8]) -> SaltMapped
 // gives index 0 on its axis. Answers v.
 // Refusals: 1 LENGTH (v isn't 2, 4 or 6), 3 OUTPUT SHORT.
 #[unsafe(no_mangle)]
-pub extern "C" fn salt_dvb_t_demap_symbol(sym: SaltCell, v: usize, out: &mut [u8]) -> SaltCounted
+pub extern "C" fn salt_dvb_t_demap_symbol(sym: Cell, v: usize, out: &mut [u8]) -> SaltCounted
     ensures answer { Says result (demap_answer v out.old) }
-    ensures output { Demapped (cell_of sym) v out.old out.new }
+    ensures output { Demapped sym v out.old out.new }
 {
-    numbers_of(gray::dvb_t_demap_symbol(
-        Cell {
-            re: sym.re,
-            im: sym.im,
-        },
-        v,
-        out,
-    ))
+    numbers_of(gray::dvb_t_demap_symbol(sym, v, out))
 }
 
 // Soft values as numbers.
-fn soft_numbers_of(answer: Soft) -> SaltSoft
+#[tactic(auto, unfolding(ground::specs::Cells::plus_zero))]
+fn soft_numbers_of(answer: Result<Soft, Refusal>) -> SaltSoft
     ensures { SaysSoft result answer }
 {
     match answer {
-        Soft::Two(a, b) => SaltSoft {
+        Ok(Soft::Two(a, b)) => SaltSoft {
             number: 0,
             count: 2,
             values: [a, b, 0.0, 0.0, 0.0, 0.0],
         },
-        Soft::Four(a, b, c, d) => SaltSoft {
+        Ok(Soft::Four(a, b, c, d)) => SaltSoft {
             number: 0,
             count: 4,
             values: [a, b, c, d, 0.0, 0.0],
         },
-        Soft::Six(a, b, c, d, e, f) => SaltSoft {
+        Ok(Soft::Six(a, b, c, d, e, f)) => SaltSoft {
             number: 0,
             count: 6,
             values: [a, b, c, d, e, f],
         },
-        Soft::Refused(number) => SaltSoft {
-            number,
+        Err(refusal) => SaltSoft {
+            number: u8::from(refusal),
             count: 0,
-            values: [0.0; 6],
+            values: [0.0; sizes::SOFT_VALUES],
         },
     }
 }
@@ -93,14 +83,8 @@ fn soft_numbers_of(answer: Soft) -> SaltSoft
 // positive where 0 is likelier. A NaN or infinite coordinate gives NaN on its axis.
 // Refusals: 1 LENGTH (v isn't 2, 4 or 6).
 #[unsafe(no_mangle)]
-pub extern "C" fn salt_dvb_t_soft_llr(sym: SaltCell, v: usize) -> SaltSoft
-    ensures { SaysSoft result (soft_answer (cell_of sym) v) }
+pub extern "C" fn salt_dvb_t_soft_llr(sym: Cell, v: usize) -> SaltSoft
+    ensures { SaysSoft result (soft_answer sym v) }
 {
-    soft_numbers_of(gray::dvb_t_soft_llr(
-        Cell {
-            re: sym.re,
-            im: sym.im,
-        },
-        v,
-    ))
+    soft_numbers_of(gray::dvb_t_soft_llr(sym, v))
 }

@@ -8,10 +8,9 @@ ghost use Rattle.std.specs.Prelude.{◌≡◌};
 ghost use Rattle.desk.specs.Desk.{fresh};
 ghost use Rattle.saltkernel.specs.Desks.{frame_codes, incomplete, take_answer, SaysTaken};
 
-use super::words::{SaltTpsWord, word_of};
-use desk::{Answer, Desk, Parameters, SuperFrame, Taken};
+use super::words::SaltTpsWord;
+use desk::{Desk, Parameters, SuperFrame, Taken};
 use tps::TpsWord;
-use tps::inner::WordRead;
 
 // The answer to a word, and the desk after it. Where `complete` is 1 a super-frame is complete, with its cell id and
 // its parameters by their codes; else these are 0.
@@ -25,24 +24,15 @@ pub struct SaltDeskTaken {
     pub desk: Desk,
 }
 
-// The codes of a super-frame's parameters.
+// The codes of a super-frame's parameters, which `frame_codes` of this crate's promise says, so that it is no `From` of
+// crate desk's.
 fn codes_of(frame: SuperFrame) -> Parameters
     ensures { result ≡ frame_codes frame }
 {
-    let constellation = frame.constellation;
-    let code_rate_hp = frame.code_rate_hp;
-    let guard = frame.guard;
-    let codes = tps::inner::codes_of(TpsWord {
-        frame_number: 0,
-        constellation,
-        code_rate_hp,
-        guard,
-        cell_id: 0,
-    });
     Parameters {
-        constellation: codes.constellation,
-        code_rate_hp: codes.rate,
-        guard: codes.guard,
+        constellation: frame.constellation as u8,
+        code_rate_hp: frame.code_rate_hp as u8,
+        guard: frame.guard as u8,
     }
 }
 
@@ -50,36 +40,29 @@ fn codes_of(frame: SuperFrame) -> Parameters
 fn incomplete(number: u8, desk: Desk) -> SaltDeskTaken
     ensures { result ≡ incomplete number desk }
 {
-    let parameters = Parameters {
-        constellation: 0,
-        code_rate_hp: 0,
-        guard: 0,
-    };
     SaltDeskTaken {
         number,
         complete: 0,
         cell_id: 0,
-        parameters,
+        parameters: Parameters::default(),
         desk,
     }
 }
 
-// The answer to a word as numbers.
+// The answer to a word as numbers: a flag and zeros stand for an Option, and a number for a refusal, as C has them.
 fn taken_numbers_of(taken: Taken) -> SaltDeskTaken
     ensures { SaysTaken result taken }
 {
-    let answer = taken.answer;
-    let desk = taken.desk;
-    match answer {
-        Answer::Gathered => incomplete(0, desk),
-        Answer::Complete(frame) => SaltDeskTaken {
+    match taken.answer {
+        Ok(None) => incomplete(0, taken.desk),
+        Ok(Some(frame)) => SaltDeskTaken {
             number: 0,
             complete: 1,
             cell_id: frame.cell_id,
             parameters: codes_of(frame),
-            desk,
+            desk: taken.desk,
         },
-        Answer::Refused(number) => incomplete(number, desk),
+        Err(refusal) => incomplete(u8::from(refusal), taken.desk),
     }
 }
 
@@ -98,8 +81,8 @@ pub extern "C" fn salt_desk_new() -> Desk
 pub extern "C" fn salt_desk_take(desk: Desk, word: SaltTpsWord) -> SaltDeskTaken
     ensures { SaysTaken result (take_answer desk word) }
 {
-    let WordRead::Known(known) = word_of(word) else {
-        return incomplete(ground::RESERVED, desk);
-    };
-    taken_numbers_of(desk.take(known))
+    match TpsWord::try_from(word) {
+        Ok(known) => taken_numbers_of(desk.take(known)),
+        Err(refusal) => incomplete(u8::from(refusal), desk),
+    }
 }

@@ -10,8 +10,9 @@ ghost use Rattle.saltkernel.specs.Words.{SaysOneThat};
 ghost use Rattle.saltkernel.specs.Frames.{SaysSent, SaysBit, SaysFed};
 
 use super::words::{SaltUnpacked, unpacked_numbers_of};
-use super::{SaltCounted, numbers_of, sizes};
-use tps::{TpsBit, TpsDecoder, TpsEncoder};
+use super::{SaltCounted, number_and, numbers_of, sizes};
+use ground::Refusal;
+use tps::{Fed, TpsDecoder, TpsEncoder};
 
 // The count or the refusal, and the sender behind the symbol or, refused, as it went in.
 #[repr(C)]
@@ -39,13 +40,11 @@ pub struct SaltTpsBit {
 }
 
 // A bit as numbers.
-fn bit_numbers_of(answer: TpsBit) -> SaltTpsBit
+fn bit_numbers_of(answer: Result<u8, Refusal>) -> SaltTpsBit
     ensures { SaysBit result answer }
 {
-    match answer {
-        TpsBit::Bit(bit) => SaltTpsBit { number: 0, bit },
-        TpsBit::Refused(number) => SaltTpsBit { number, bit: 0 },
-    }
+    let (number, bit) = number_and(answer, 0);
+    SaltTpsBit { number, bit }
 }
 
 // A sender at the start of a frame.
@@ -77,11 +76,9 @@ pub extern "C" fn salt_tps_encoder_next_symbol(
     ensures output { out.new ≡ send_leaves mode2k encoder bit out.old }
 {
     let sent = encoder.next_symbol(bit, out);
-    let answer = sent.answer;
-    let next = sent.encoder;
     SaltSent {
-        answer: numbers_of(answer),
-        encoder: next,
+        answer: numbers_of(sent.answer),
+        encoder: sent.encoder,
     }
 }
 
@@ -108,20 +105,12 @@ pub extern "C" fn salt_tps_decoder_reset(decoder: TpsDecoder) -> TpsDecoder
 pub extern "C" fn salt_tps_decoder_feed_symbol(decoder: TpsDecoder, cells: &[f32]) -> SaltTpsFed
     ensures { SaysFed result (feed_answer mode2k decoder cells.now) }
 {
-    let fed = decoder.feed_symbol(cells);
-    let answer = fed.answer;
-    let next = fed.decoder;
-    match answer {
-        TpsBit::Bit(bit) => SaltTpsFed {
-            number: 0,
-            bit,
-            decoder: next,
-        },
-        TpsBit::Refused(number) => SaltTpsFed {
-            number,
-            bit: 0,
-            decoder: next,
-        },
+    let Fed { answer, decoder } = decoder.feed_symbol(cells);
+    let (number, bit) = number_and(answer, 0);
+    SaltTpsFed {
+        number,
+        bit,
+        decoder,
     }
 }
 
@@ -151,7 +140,7 @@ pub extern "C" fn salt_tps_decoder_feed_in_place(
 pub extern "C" fn salt_tps_decoder_is_complete(decoder: TpsDecoder) -> u8
     ensures { result ≡ cond (leb SYMBOLS decoder.count) 1 0 }
 {
-    if decoder.is_complete() { 1 } else { 0 }
+    u8::from(decoder.is_complete())
 }
 
 // The received bits s0 and on, one for each symbol that stands. Answers how many, 0 to 68.

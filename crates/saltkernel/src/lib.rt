@@ -23,10 +23,15 @@
 // ETSI EN 300 744 is the standard that sections (4.3.1 and others) refer to.
 #![tactic(auto)]
 
+ghost use Rattle.std.specs.Prelude.{◌≡◌};
+ghost use Rattle.ground.specs.Answer.{number_of, value_or};
+ghost use Rattle.ground.specs.Refusal.{code};
 ghost use Rattle.saltkernel.specs.Numbers.{Says};
 
-use ground::Counted;
+use ground::{Cell, Refusal};
 
+// C has no generics, no Option and no Result, and its names stay: two exported functions that differ in a decoder or a
+// list stand twice, and an answer is a number and what stands in a value's place.
 mod cells;
 mod codes;
 mod constellation;
@@ -51,28 +56,29 @@ pub struct SaltCounted {
     pub count: usize,
 }
 
-// A cell by value.
-#[repr(C)]
-#[derive(Clone, Copy)]
-pub struct SaltCell {
-    pub re: f32,
-    pub im: f32,
-}
-
 // A cell, or a refusal's number and the cell +0.0, +0.0.
 #[repr(C)]
 #[derive(Clone, Copy)]
 pub struct SaltMapped {
     pub number: u8,
-    pub point: SaltCell,
+    pub point: Cell,
+}
+
+// An answer as C has it: 0 and the value, or the refusal's number and what stands in the value's place.
+fn number_and<T: Copy>(answer: Result<T, Refusal>, other: T) -> (u8, T)
+    ensures number { result.0 ≡ code (number_of answer) }
+    ensures value { result.1 ≡ value_or other answer }
+{
+    match answer {
+        Ok(value) => (0, value),
+        Err(refusal) => (u8::from(refusal), other),
+    }
 }
 
 // An answer that is a count, as two numbers.
-fn numbers_of(answer: Counted) -> SaltCounted
+fn numbers_of(answer: Result<usize, Refusal>) -> SaltCounted
     ensures { Says result answer }
 {
-    match answer {
-        Counted::Count(count) => SaltCounted { number: 0, count },
-        Counted::Refused(number) => SaltCounted { number, count: 0 },
-    }
+    let (number, count) = number_and(answer, 0);
+    SaltCounted { number, count }
 }

@@ -2,7 +2,8 @@
 // A carrier is counted in three ways, and each argument and answer says in which: an active index, 0 to 1704; a signed
 // index, active - 852; a bin, signed modulo 2,048. A phase of the scattered pilots is taken modulo 4.
 ghost use Rattle.std.specs.Prelude.{◌≡◌, ◌%◌, length};
-ghost use Rattle.ground.specs.Answer.{fill_answer, fill_leaves};
+ghost use Rattle.ground.specs.Answer.{fill_answer, fill_leaves, number_of, count_of};
+ghost use Rattle.ground.specs.Refusal.{code};
 ghost use Rattle.carriers.specs.Mode.{mode2k};
 ghost use Rattle.carriers.specs.Sequence.{wk_from};
 ghost use Rattle.carriers.specs.Carriers.{scattered, data_bins, static_bins, continual_bins, tps_bins};
@@ -12,8 +13,10 @@ ghost use Rattle.carriers.specs.Answers.{reference_answer, reference_bins_leaves
 ghost use Rattle.saltkernel.specs.Numbers.{Says};
 ghost use Rattle.saltkernel.specs.Carriers.{SaysActive, SaysSigned, SaysBin, SaysBoosted};
 
-use super::{SaltCell, SaltCounted, SaltMapped, numbers_of, sizes};
-use carriers::{Active, AsActive, AsBin, AsSigned, Bin, Boosted, Signed};
+use super::constellation::point_numbers_of;
+use super::{SaltCounted, SaltMapped, number_and, numbers_of, sizes};
+use carriers::{Active, Bin, Signed};
+use ground::Refusal;
 
 // An active index or a bin, or a refusal's number and the index 0.
 #[repr(C)]
@@ -46,61 +49,20 @@ pub struct SaltTps {
 }
 
 // A signed index as numbers.
-fn signed_numbers_of(answer: AsSigned) -> SaltSigned
+fn signed_numbers_of(answer: Result<Signed, Refusal>) -> SaltSigned
     ensures { SaysSigned result answer }
 {
-    match answer {
-        AsSigned::At(signed) => SaltSigned {
-            number: 0,
-            index: signed.0,
-        },
-        AsSigned::Refused(number) => SaltSigned { number, index: 0 },
-    }
+    let (number, index) = number_and(answer.map(|signed| signed.0), 0);
+    SaltSigned { number, index }
 }
 
-// A bin as numbers.
-fn bin_numbers_of(answer: AsBin) -> SaltCarrier
-    ensures { SaysBin result answer }
+// An active index or a bin as numbers.
+fn carrier_numbers_of(answer: Result<u16, Refusal>) -> SaltCarrier
+    ensures number { result.number ≡ code (number_of answer) }
+    ensures index { result.index ≡ count_of answer }
 {
-    match answer {
-        AsBin::At(bin) => SaltCarrier {
-            number: 0,
-            index: bin.0,
-        },
-        AsBin::Refused(number) => SaltCarrier { number, index: 0 },
-    }
-}
-
-// An active index as numbers.
-fn active_numbers_of(answer: AsActive) -> SaltCarrier
-    ensures { SaysActive result answer }
-{
-    match answer {
-        AsActive::At(active) => SaltCarrier {
-            number: 0,
-            index: active.0,
-        },
-        AsActive::Refused(number) => SaltCarrier { number, index: 0 },
-    }
-}
-
-// A boosted value as numbers.
-fn boosted_numbers_of(answer: Boosted) -> SaltMapped
-    ensures { SaysBoosted result answer }
-{
-    match answer {
-        Boosted::Value(cell) => SaltMapped {
-            number: 0,
-            point: SaltCell {
-                re: cell.re,
-                im: cell.im,
-            },
-        },
-        Boosted::Refused(number) => SaltMapped {
-            number,
-            point: SaltCell { re: 0.0, im: 0.0 },
-        },
-    }
+    let (number, index) = number_and(answer, 0);
+    SaltCarrier { number, index }
 }
 
 // The signed index of an active one.
@@ -118,7 +80,7 @@ pub extern "C" fn salt_active_to_signed(active: u16) -> SaltSigned
 pub extern "C" fn salt_signed_to_bin(signed: i16) -> SaltCarrier
     ensures { SaysBin result (signed_to_bin_answer mode2k signed) }
 {
-    bin_numbers_of(carriers::signed_to_bin(Signed(signed)))
+    carrier_numbers_of(carriers::signed_to_bin(Signed(signed)).map(|bin| bin.0))
 }
 
 // The active index of a bin.
@@ -127,7 +89,7 @@ pub extern "C" fn salt_signed_to_bin(signed: i16) -> SaltCarrier
 pub extern "C" fn salt_bin_to_active(bin: u16) -> SaltCarrier
     ensures { SaysActive result (bin_to_active_answer mode2k bin) }
 {
-    active_numbers_of(carriers::bin_to_active(Bin(bin)))
+    carrier_numbers_of(carriers::bin_to_active(Bin(bin)).map(|active| active.0))
 }
 
 // Fills the output with the pilot sequence w from its start, a bit a byte; the bit of an active carrier stands at its
@@ -145,7 +107,7 @@ pub extern "C" fn salt_wk_prbs(out: &mut [u8])
 pub extern "C" fn salt_boosted_pilot_value(wk: u8) -> SaltMapped
     ensures { SaysBoosted result (boosted_answer wk) }
 {
-    boosted_numbers_of(carriers::boosted_pilot_value(wk))
+    point_numbers_of(carriers::boosted_pilot_value(wk))
 }
 
 // The active indices of the 45 continual carriers.
@@ -153,8 +115,9 @@ pub extern "C" fn salt_boosted_pilot_value(wk: u8) -> SaltMapped
 pub extern "C" fn salt_continual_pilot_indices() -> SaltContinual
     ensures { result.carriers ≡ mode2k.continual }
 {
-    let table = carriers::inner::continual_pilot_indices();
-    SaltContinual { carriers: table }
+    SaltContinual {
+        carriers: carriers::inner::continual_pilot_indices(),
+    }
 }
 
 // The bins of the 45 continual carriers.
@@ -162,8 +125,9 @@ pub extern "C" fn salt_continual_pilot_indices() -> SaltContinual
 pub extern "C" fn salt_continual_pilot_bins() -> SaltContinual
     ensures { result.carriers ≡ continual_bins mode2k }
 {
-    let table = carriers::inner::continual_pilot_bins();
-    SaltContinual { carriers: table }
+    SaltContinual {
+        carriers: carriers::inner::continual_pilot_bins(),
+    }
 }
 
 // The active indices of the 17 TPS carriers.
@@ -171,8 +135,9 @@ pub extern "C" fn salt_continual_pilot_bins() -> SaltContinual
 pub extern "C" fn salt_tps_carrier_indices() -> SaltTps
     ensures { result.carriers ≡ mode2k.tps }
 {
-    let table = carriers::inner::tps_carrier_indices();
-    SaltTps { carriers: table }
+    SaltTps {
+        carriers: carriers::inner::tps_carrier_indices(),
+    }
 }
 
 // The bins of the 17 TPS carriers.
@@ -180,8 +145,9 @@ pub extern "C" fn salt_tps_carrier_indices() -> SaltTps
 pub extern "C" fn salt_tps_carrier_bins() -> SaltTps
     ensures { result.carriers ≡ tps_bins mode2k }
 {
-    let table = carriers::inner::tps_carrier_bins();
-    SaltTps { carriers: table }
+    SaltTps {
+        carriers: carriers::inner::tps_carrier_bins(),
+    }
 }
 
 // The active indices of a phase's scattered carriers: 3p, 3p + 12, .. up to 1704. Answers how many: 143 in phase 0,

@@ -10,13 +10,14 @@ ghost use Rattle.report.specs.Calls.{heading_answer, heading_leaves, feed_answer
 ghost use Rattle.report.specs.Calls.{close_leaves};
 ghost use Rattle.saltkernel.specs.Numbers.{Says};
 ghost use Rattle.saltkernel.specs.Words.{SaysUnpacked};
-ghost use Rattle.saltkernel.specs.Reports.{answer_in, reserved_in, line_answer, line_leaves, SaysReaderFed};
+ghost use Rattle.saltkernel.specs.Reports.{answer_read, line_answer, line_leaves, SaysReaderFed};
 
-use super::words::{SaltUnpacked, unpacked_numbers_of, word_of};
+use super::sizes::LINE_ROOM;
+use super::words::{SaltUnpacked, unpacked_numbers_of};
 use super::{SaltCounted, numbers_of};
-use report::Reader;
-use tps::inner::WordRead;
-use tps::{Decoder, Mended, Unpacked};
+use ground::Refusal;
+use report::{Fed, Reader};
+use tps::{Decoder, Mended, MendedWord, TpsWord};
 
 // The bytes written or the refusal, and the reader behind the part or, refused, as it went in.
 #[repr(C)]
@@ -26,59 +27,43 @@ pub struct SaltReaderFed {
     pub reader: Reader,
 }
 
-// Whether an answer's word has a code that stands for nothing.
-fn reserved_answer(answer: SaltUnpacked) -> bool
-    ensures { result ≡ reserved_in answer }
-{
-    if answer.number != 0 {
-        return false;
+impl From<Fed> for SaltReaderFed {
+    ghost from_gives = { λ fed numbers. SaysReaderFed numbers fed };
+
+    // The numbers and the reader of a feed.
+    fn from(fed: Fed) -> Self {
+        SaltReaderFed {
+            answer: numbers_of(fed.answer),
+            reader: fed.reader,
+        }
     }
-    let word = answer.word;
-    let WordRead::Known(_) = word_of(word) else {
-        return true;
-    };
-    false
 }
 
-// The answer that the numbers say.
-fn answer_of(answer: SaltUnpacked) -> Unpacked
-    ensures { result ≡ answer_in answer }
+// The answer that the numbers say, or that a code of its word stands for nothing.
+fn answer_of(answer: SaltUnpacked) -> Result<Result<MendedWord, u8>, Refusal>
+    ensures { result ≡ answer_read answer }
 {
     if answer.number != 0 {
-        return Unpacked::Refused(answer.number);
+        return Ok(Err(answer.number));
     }
-    let word = answer.word;
-    let WordRead::Known(known) = word_of(word) else {
-        return Unpacked::Refused(ground::RESERVED);
-    };
+    let word = TpsWord::try_from(answer.word)?;
     let mended = Mended {
         count: answer.mended,
         first: answer.first,
         second: answer.second,
     };
-    Unpacked::Word(known, mended)
+    Ok(Ok(MendedWord { word, mended }))
 }
 
-// The text of a part, its lines read by either decoder.
-fn fed_by(decoder: Decoder, reader: Reader, part: &[u8], out: &mut [u8]) -> SaltReaderFed
-    ensures answer { SaysReaderFed result (feed_answer reader part.now out.old) }
-    ensures output { out.new ≡ feed_leaves reader part.now out.old }
+// Writes the report's line for a line's number and its answer.
+fn put_line(number: u64, answer: SaltUnpacked, out: &mut [u8]) -> Result<usize, Refusal>
+    ensures answer { result ≡ line_answer number answer out.old }
+    ensures output { out.new ≡ line_leaves number answer out.old }
 {
-    let fed = reader.feed(decoder, part, out);
-    let answer = fed.answer;
-    let next = fed.reader;
-    SaltReaderFed {
-        answer: numbers_of(answer),
-        reader: next,
+    if out.len() < LINE_ROOM {
+        return Err(Refusal::OutputShort);
     }
-}
-
-// The text at the end of the input, its open line read by either decoder.
-fn closed_by(decoder: Decoder, reader: Reader, out: &mut [u8]) -> SaltCounted
-    ensures answer { Says result (close_answer reader out.old) }
-    ensures output { out.new ≡ close_leaves reader out.old }
-{
-    numbers_of(reader.close(decoder, out))
+    report::put_line(number, answer_of(answer)?, out)
 }
 
 // The word that a line says, given without its newline, with up to two wrong bits mended; s0 is ignored.
@@ -109,19 +94,7 @@ pub extern "C" fn salt_put_line(number: u64, answer: SaltUnpacked, out: &mut [u8
     ensures answer { Says result (line_answer number answer out.old) }
     ensures output { out.new ≡ line_leaves number answer out.old }
 {
-    if out.len() < 60 {
-        return SaltCounted {
-            number: ground::OUTPUT_SHORT,
-            count: 0,
-        };
-    }
-    if reserved_answer(answer) {
-        return SaltCounted {
-            number: ground::RESERVED,
-            count: 0,
-        };
-    }
-    numbers_of(report::put_line(number, answer_of(answer), out))
+    numbers_of(put_line(number, answer, out))
 }
 
 // A reader at the start of the input.
@@ -140,7 +113,7 @@ pub extern "C" fn salt_reader_feed(reader: Reader, part: &[u8], out: &mut [u8]) 
     ensures answer { SaysReaderFed result (feed_answer reader part.now out.old) }
     ensures output { out.new ≡ feed_leaves reader part.now out.old }
 {
-    fed_by(Decoder::Fast, reader, part, out)
+    SaltReaderFed::from(reader.feed(Decoder::Fast, part, out))
 }
 
 // The same by the slow decoder, with the same text.
@@ -154,7 +127,7 @@ pub extern "C" fn salt_reader_feed_slow(
     ensures answer { SaysReaderFed result (feed_answer reader part.now out.old) }
     ensures output { out.new ≡ feed_leaves reader part.now out.old }
 {
-    fed_by(Decoder::Slow, reader, part, out)
+    SaltReaderFed::from(reader.feed(Decoder::Slow, part, out))
 }
 
 // Ends the input: writes the report's line for a line that is open there, and the closing line. Answers the bytes
@@ -165,7 +138,7 @@ pub extern "C" fn salt_reader_close(reader: Reader, out: &mut [u8]) -> SaltCount
     ensures answer { Says result (close_answer reader out.old) }
     ensures output { out.new ≡ close_leaves reader out.old }
 {
-    closed_by(Decoder::Fast, reader, out)
+    numbers_of(reader.close(Decoder::Fast, out))
 }
 
 // The same by the slow decoder, with the same text.
@@ -175,5 +148,5 @@ pub extern "C" fn salt_reader_close_slow(reader: Reader, out: &mut [u8]) -> Salt
     ensures answer { Says result (close_answer reader out.old) }
     ensures output { out.new ≡ close_leaves reader out.old }
 {
-    closed_by(Decoder::Slow, reader, out)
+    numbers_of(reader.close(Decoder::Slow, out))
 }

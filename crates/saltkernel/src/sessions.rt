@@ -11,9 +11,9 @@ ghost use Rattle.session.specs.Session.{step_back_answer, Words};
 ghost use Rattle.saltkernel.specs.Words.{SaysOneThat};
 ghost use Rattle.saltkernel.specs.Sessions.{SaysSessionFed, SaysStepped};
 
+use super::number_and;
 use super::words::{SaltUnpacked, unpacked_numbers_of};
-use session::{Session, StepBack};
-use tps::TpsBit;
+use session::{Fed, Session, SteppedBack};
 
 // The symbol's TPS bit and the session behind it; or a refusal's number, the bit 0 and the session as it went in.
 #[repr(C)]
@@ -66,20 +66,12 @@ pub extern "C" fn salt_session_feed(
     ensures journal { journal.new
         ≡ feed_journal_leaves mode2k session symbol.now out.old journal.old }
 {
-    let fed = session.feed(symbol, out, journal);
-    let answer = fed.answer;
-    let next = fed.session;
-    match answer {
-        TpsBit::Bit(bit) => SaltSessionFed {
-            number: 0,
-            bit,
-            session: next,
-        },
-        TpsBit::Refused(number) => SaltSessionFed {
-            number,
-            bit: 0,
-            session: next,
-        },
+    let Fed { answer, session } = session.feed(symbol, out, journal);
+    let (number, bit) = number_and(answer, 0);
+    SaltSessionFed {
+        number,
+        bit,
+        session,
     }
 }
 
@@ -91,19 +83,9 @@ pub extern "C" fn salt_session_feed(
 pub extern "C" fn salt_session_step_back(session: Session, journal: &[f32]) -> SaltSessionStepped
     ensures { SaysStepped result (step_back_answer mode2k session journal.now) }
 {
-    let stepped = session.step_back(journal);
-    let answer = stepped.answer;
-    let next = stepped.session;
-    match answer {
-        StepBack::Done => SaltSessionStepped {
-            number: 0,
-            session: next,
-        },
-        StepBack::Refused(number) => SaltSessionStepped {
-            number,
-            session: next,
-        },
-    }
+    let SteppedBack { answer, session } = session.step_back(journal);
+    let (number, ()) = number_and(answer, ());
+    SaltSessionStepped { number, session }
 }
 
 // The phase of the session's next symbol, 0 to 3.

@@ -7,31 +7,17 @@ ghost use Rattle.carriers.specs.Answers.{reference_answer, reference_bins_leaves
 ghost use Rattle.grid.specs.Calls.{phase_of, map_answer, map_leaves, extract_answer, extract_leaves, grid_map_answer};
 ghost use Rattle.grid.specs.Calls.{grid_extract_answer, grid_extract_leaves};
 ghost use Rattle.saltkernel.specs.Numbers.{Says};
-ghost use Rattle.saltkernel.specs.Grid.{mapper_of, extractor_of, SaysMapped, SaysExtracted};
+ghost use Rattle.saltkernel.specs.Grid.{SaysMapped, SaysExtracted};
 
-use super::{SaltCounted, numbers_of};
-use grid::{ExtractAnswer, MapAnswer, ScatteredPilotExtractor, ScatteredPilotMapper};
-
-// The mapper: the phase of its next symbol, taken modulo 4.
-#[repr(C)]
-#[derive(Clone, Copy)]
-pub struct SaltScatteredPilotMapper {
-    pub phase: usize,
-}
-
-// The extractor: the phase of its next symbol, taken modulo 4.
-#[repr(C)]
-#[derive(Clone, Copy)]
-pub struct SaltScatteredPilotExtractor {
-    pub phase: usize,
-}
+use super::{SaltCounted, number_and, numbers_of};
+use grid::{Moved, ScatteredPilotExtractor, ScatteredPilotMapper};
 
 // The mapper in the next phase; or a refusal's number and the mapper as it went in.
 #[repr(C)]
 #[derive(Clone, Copy)]
 pub struct SaltMapAnswer {
     pub number: u8,
-    pub mapper: SaltScatteredPilotMapper,
+    pub mapper: ScatteredPilotMapper,
 }
 
 // The extractor in the next phase; or a refusal's number and the extractor as it went in.
@@ -39,64 +25,47 @@ pub struct SaltMapAnswer {
 #[derive(Clone, Copy)]
 pub struct SaltExtractAnswer {
     pub number: u8,
-    pub extractor: SaltScatteredPilotExtractor,
+    pub extractor: ScatteredPilotExtractor,
 }
 
 // What mapping a symbol answers, as numbers.
-fn map_numbers_of(answer: MapAnswer) -> SaltMapAnswer
-    ensures { SaysMapped result answer }
+fn map_numbers_of(moved: Moved<ScatteredPilotMapper>) -> SaltMapAnswer
+    ensures { SaysMapped result moved }
 {
-    match answer {
-        MapAnswer::Mapped(next) => SaltMapAnswer {
-            number: 0,
-            mapper: SaltScatteredPilotMapper { phase: next.phase },
-        },
-        MapAnswer::Refused(number, kept) => SaltMapAnswer {
-            number,
-            mapper: SaltScatteredPilotMapper { phase: kept.phase },
-        },
+    let (number, ()) = number_and(moved.answer, ());
+    SaltMapAnswer {
+        number,
+        mapper: moved.state,
     }
 }
 
 // What extracting a symbol answers, as numbers.
-fn extract_numbers_of(answer: ExtractAnswer) -> SaltExtractAnswer
-    ensures { SaysExtracted result answer }
+fn extract_numbers_of(moved: Moved<ScatteredPilotExtractor>) -> SaltExtractAnswer
+    ensures { SaysExtracted result moved }
 {
-    match answer {
-        ExtractAnswer::Extracted(next) => SaltExtractAnswer {
-            number: 0,
-            extractor: SaltScatteredPilotExtractor { phase: next.phase },
-        },
-        ExtractAnswer::Refused(number, kept) => SaltExtractAnswer {
-            number,
-            extractor: SaltScatteredPilotExtractor { phase: kept.phase },
-        },
+    let (number, ()) = number_and(moved.answer, ());
+    SaltExtractAnswer {
+        number,
+        extractor: moved.state,
     }
 }
 
 // A mapper in phase 0.
 #[unsafe(no_mangle)]
-pub extern "C" fn salt_scattered_pilot_mapper_new() -> SaltScatteredPilotMapper
-    ensures { mapper_of result ≡ record { phase = 0 } }
+pub extern "C" fn salt_scattered_pilot_mapper_new() -> ScatteredPilotMapper
+    ensures { result ≡ record { phase = 0 } }
 {
-    let mapper = ScatteredPilotMapper::new();
-    SaltScatteredPilotMapper {
-        phase: mapper.phase,
-    }
+    ScatteredPilotMapper::new()
 }
 
 // The mapper in phase 0 again.
 #[unsafe(no_mangle)]
 pub extern "C" fn salt_scattered_pilot_mapper_reset(
-    mapper: SaltScatteredPilotMapper,
-) -> SaltScatteredPilotMapper
-    ensures { mapper_of result ≡ record { phase = 0 } }
+    mapper: ScatteredPilotMapper,
+) -> ScatteredPilotMapper
+    ensures { result ≡ record { phase = 0 } }
 {
-    let reset = ScatteredPilotMapper {
-        phase: mapper.phase,
-    }
-    .reset();
-    SaltScatteredPilotMapper { phase: reset.phase }
+    mapper.reset()
 }
 
 // Makes a symbol: 2,048 cells +0.0, then the 1,512 data cells in their bins, then the boosted value on every reserved
@@ -104,74 +73,55 @@ pub extern "C" fn salt_scattered_pilot_mapper_reset(
 // Refusals: 1 LENGTH (fewer than 3,024 floats of cells), 3 OUTPUT SHORT (room for fewer than 4,096 floats).
 #[unsafe(no_mangle)]
 pub extern "C" fn salt_scattered_pilot_mapper_map_symbol(
-    mapper: SaltScatteredPilotMapper,
+    mapper: ScatteredPilotMapper,
     cells: &[f32],
     symbol: &mut [f32],
 ) -> SaltMapAnswer
-    ensures answer { SaysMapped result (map_answer mode2k (mapper_of mapper) cells.now
-        symbol.old) }
+    ensures answer { SaysMapped result (map_answer mode2k mapper cells.now symbol.old) }
     ensures symbol { symbol.new
         ≡ map_leaves mode2k (phase_of mapper.phase) cells.now symbol.old }
 {
-    map_numbers_of(ScatteredPilotMapper {
-        phase: mapper.phase,
-    }
-    .map_symbol(cells, symbol))
+    map_numbers_of(mapper.map_symbol(cells, symbol))
 }
 
 // An extractor in phase 0.
 #[unsafe(no_mangle)]
-pub extern "C" fn salt_scattered_pilot_extractor_new() -> SaltScatteredPilotExtractor
-    ensures { extractor_of result ≡ record { phase = 0 } }
+pub extern "C" fn salt_scattered_pilot_extractor_new() -> ScatteredPilotExtractor
+    ensures { result ≡ record { phase = 0 } }
 {
-    let extractor = ScatteredPilotExtractor::new();
-    SaltScatteredPilotExtractor {
-        phase: extractor.phase,
-    }
+    ScatteredPilotExtractor::new()
 }
 
 // The extractor in phase 0 again.
 #[unsafe(no_mangle)]
 pub extern "C" fn salt_scattered_pilot_extractor_reset(
-    extractor: SaltScatteredPilotExtractor,
-) -> SaltScatteredPilotExtractor
-    ensures { extractor_of result ≡ record { phase = 0 } }
+    extractor: ScatteredPilotExtractor,
+) -> ScatteredPilotExtractor
+    ensures { result ≡ record { phase = 0 } }
 {
-    let reset = ScatteredPilotExtractor {
-        phase: extractor.phase,
-    }
-    .reset();
-    SaltScatteredPilotExtractor { phase: reset.phase }
+    extractor.reset()
 }
 
 // The phase of the extractor's next symbol, 0 to 3.
 #[unsafe(no_mangle)]
-pub extern "C" fn salt_scattered_pilot_extractor_phase(
-    extractor: SaltScatteredPilotExtractor,
-) -> usize
+pub extern "C" fn salt_scattered_pilot_extractor_phase(extractor: ScatteredPilotExtractor) -> usize
     ensures { result ≡ phase_of extractor.phase }
 {
-    ScatteredPilotExtractor {
-        phase: extractor.phase,
-    }
-    .phase()
+    extractor.phase()
 }
 
 // The bins of the 1,512 data carriers of the extractor's next symbol, as salt_data_bins gives them. Answers 1,512.
 // Refusals: 3 OUTPUT SHORT.
 #[unsafe(no_mangle)]
 pub extern "C" fn salt_scattered_pilot_extractor_data_bins(
-    extractor: SaltScatteredPilotExtractor,
+    extractor: ScatteredPilotExtractor,
     out: &mut [u16],
 ) -> SaltCounted
     ensures answer { Says result (fill_answer mode2k.data_count out.old) }
     ensures output { out.new
         ≡ fill_leaves mode2k.data_count (data_bins mode2k (phase_of extractor.phase)) out.old }
 {
-    numbers_of(ScatteredPilotExtractor {
-        phase: extractor.phase,
-    }
-    .data_bins(out))
+    numbers_of(extractor.data_bins(out))
 }
 
 // The bins and values of the 176 reference pilots of the extractor's next symbol, as salt_reference_pilot_bins gives
@@ -179,7 +129,7 @@ pub extern "C" fn salt_scattered_pilot_extractor_data_bins(
 // Refusals: 3 OUTPUT SHORT (either).
 #[unsafe(no_mangle)]
 pub extern "C" fn salt_scattered_pilot_extractor_current_pilot_bins(
-    extractor: SaltScatteredPilotExtractor,
+    extractor: ScatteredPilotExtractor,
     bins: &mut [u16],
     values: &mut [f32],
 ) -> SaltCounted
@@ -189,29 +139,22 @@ pub extern "C" fn salt_scattered_pilot_extractor_current_pilot_bins(
     ensures values { values.new
         ≡ reference_values_leaves mode2k (phase_of extractor.phase) bins.old values.old }
 {
-    numbers_of(ScatteredPilotExtractor {
-        phase: extractor.phase,
-    }
-    .current_pilot_bins(bins, values))
+    numbers_of(extractor.current_pilot_bins(bins, values))
 }
 
 // Reads the 1,512 data cells of a symbol, in rising active order.
 // Refusals: 1 LENGTH (fewer than 4,096 floats of symbol), 3 OUTPUT SHORT (room for fewer than 3,024 floats).
 #[unsafe(no_mangle)]
 pub extern "C" fn salt_scattered_pilot_extractor_extract_symbol(
-    extractor: SaltScatteredPilotExtractor,
+    extractor: ScatteredPilotExtractor,
     symbol: &[f32],
     out: &mut [f32],
 ) -> SaltExtractAnswer
-    ensures answer { SaysExtracted result (extract_answer mode2k (extractor_of extractor) symbol.now
-        out.old) }
+    ensures answer { SaysExtracted result (extract_answer mode2k extractor symbol.now out.old) }
     ensures output { out.new
         ≡ extract_leaves mode2k (phase_of extractor.phase) symbol.now out.old }
 {
-    extract_numbers_of(ScatteredPilotExtractor {
-        phase: extractor.phase,
-    }
-    .extract_symbol(symbol, out))
+    extract_numbers_of(extractor.extract_symbol(symbol, out))
 }
 
 // Mapping onto the static grid is retired: nothing is written. Symbols made before it was are read by

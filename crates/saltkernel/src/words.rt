@@ -5,10 +5,11 @@ ghost use Rattle.tps.specs.Packing.{Unpacks};
 ghost use Rattle.saltkernel.specs.Numbers.{Says};
 ghost use Rattle.saltkernel.specs.Words.{codes_for, word_in, pack_answer, pack_leaves, SaysUnpacked, SaysOneThat};
 
-use super::sizes::NO_PLACE;
+use super::sizes::{NO_PLACE, TPS_WORD_BITS};
 use super::{SaltCounted, numbers_of};
-use tps::inner::{Codes, WordRead};
-use tps::{TpsWord, Unpacked};
+use ground::Refusal;
+use tps::inner::Codes;
+use tps::{MendedWord, TpsWord};
 
 // The parameters that a frame signals; constellation, rate and guard interval by their codes.
 #[repr(C)]
@@ -32,47 +33,53 @@ pub struct SaltUnpacked {
     pub second: u8,
 }
 
-// The word that codes say; they are reserved where one of them stands for nothing.
-pub(crate) fn word_of(word: SaltTpsWord) -> WordRead
-    ensures { result ≡ word_in word }
-{
-    tps::inner::word_of(Codes {
-        frame: word.frame_number,
-        constellation: word.constellation,
-        rate: word.code_rate_hp,
-        guard: word.guard,
-        cell: word.cell_id,
-    })
+impl From<TpsWord> for SaltTpsWord {
+    ghost from_gives = { λ word codes. codes ≡ codes_for (codes_of word) };
+
+    // The codes of a word.
+    fn from(word: TpsWord) -> Self {
+        let codes = Codes::from(word);
+        SaltTpsWord {
+            frame_number: codes.frame,
+            constellation: codes.constellation,
+            code_rate_hp: codes.rate,
+            guard: codes.guard,
+            cell_id: codes.cell,
+        }
+    }
 }
 
-// The codes of a word.
-fn codes_of(word: TpsWord) -> SaltTpsWord
-    ensures { result ≡ codes_for (codes_of word) }
-{
-    let codes = tps::inner::codes_of(word);
-    SaltTpsWord {
-        frame_number: codes.frame,
-        constellation: codes.constellation,
-        code_rate_hp: codes.rate,
-        guard: codes.guard,
-        cell_id: codes.cell,
+impl TryFrom<SaltTpsWord> for TpsWord {
+    type Error = Refusal;
+
+    ghost try_from_gives = { λ codes word. word ≡ word_in codes };
+
+    // The word that codes say, or that one of them stands for nothing.
+    fn try_from(word: SaltTpsWord) -> Result<Self, Refusal> {
+        TpsWord::try_from(Codes {
+            frame: word.frame_number,
+            constellation: word.constellation,
+            rate: word.code_rate_hp,
+            guard: word.guard,
+            cell: word.cell_id,
+        })
     }
 }
 
 // A word and its mended bits as numbers.
-pub(crate) fn unpacked_numbers_of(answer: Unpacked) -> SaltUnpacked
+pub(crate) fn unpacked_numbers_of(answer: Result<MendedWord, Refusal>) -> SaltUnpacked
     ensures { SaysUnpacked result answer }
 {
     match answer {
-        Unpacked::Word(word, mended) => SaltUnpacked {
+        Ok(MendedWord { word, mended }) => SaltUnpacked {
             number: 0,
-            word: codes_of(word),
+            word: SaltTpsWord::from(word),
             mended: mended.count,
             first: mended.first,
             second: mended.second,
         },
-        Unpacked::Refused(number) => SaltUnpacked {
-            number,
+        Err(refusal) => SaltUnpacked {
+            number: u8::from(refusal),
             word: SaltTpsWord {
                 frame_number: 0,
                 constellation: 0,
@@ -87,6 +94,17 @@ pub(crate) fn unpacked_numbers_of(answer: Unpacked) -> SaltUnpacked
     }
 }
 
+// The 68 bits of the word that codes say, written to the lent output.
+fn packed(word: SaltTpsWord, out: &mut [u8]) -> Result<usize, Refusal>
+    ensures answer { result ≡ pack_answer word out.old }
+    ensures output { out.new ≡ pack_leaves word out.old }
+{
+    if out.len() < TPS_WORD_BITS {
+        return Err(Refusal::OutputShort);
+    }
+    TpsWord::try_from(word)?.pack(out)
+}
+
 // The 68 bits s0 to s67 of a word: s0 is zero, then the codeword, whose s33 to s35 are 000. Answers 68.
 // Refusals: 3 OUTPUT SHORT, 5 RESERVED (constellation above 2, rate above 4 or guard above 3).
 #[unsafe(no_mangle)]
@@ -94,19 +112,7 @@ pub extern "C" fn salt_tps_word_pack(word: SaltTpsWord, out: &mut [u8]) -> SaltC
     ensures answer { Says result (pack_answer word out.old) }
     ensures output { out.new ≡ pack_leaves word out.old }
 {
-    if out.len() < 68 {
-        return SaltCounted {
-            number: ground::OUTPUT_SHORT,
-            count: 0,
-        };
-    }
-    let WordRead::Known(known) = word_of(word) else {
-        return SaltCounted {
-            number: ground::RESERVED,
-            count: 0,
-        };
-    };
-    numbers_of(known.pack(out))
+    numbers_of(packed(word, out))
 }
 
 // The word that 68 received bits s0 to s67 say, with up to two wrong bits mended; s0 is ignored. The frame number is 0

@@ -16,7 +16,7 @@ use Rattle.carriers.specs.Mode.{Mode, data_size}
 use Rattle.carriers.proofs.Facts.{Facts}
 use Rattle.tps.specs.Word.{SYMBOLS}
 use Rattle.session.specs.declared.Session.{Session}
-use Rattle.session.specs.declared.SteppedBack.{SteppedBack}
+use Rattle.session.specs.declared.Called.{Called}
 use Rattle.session.specs.Journal.{journal_size}
 use Rattle.session.specs.Session.{FRAMES, step_back_answer, step_number}
 use Rattle.session.specs.History.{
@@ -107,7 +107,7 @@ module _ {m : Mode} (f : Facts m) {j₀ j : List Float} {os : List Op} {s : Sess
 
   -- each of 68 step backs is accepted
   pub analyst_goes_back : (n : ℕ) → n < SYMBOLS → {s₁ : Session} {j₁ : List Float} → Run m j₀ (replicate n (back l) ++ os) s₁ j₁
-      → {r : SteppedBack} → r ≡ step_back_answer m s₁ (take l j₁) → step_number r.answer ≡ ACCEPTED
+      → {r : Called (Unit {0})} → r ≡ step_back_answer m s₁ (take l j₁) → step_number r.answer ≡ ACCEPTED
   analyst_goes_back n h {s₁} {j₁} run e =
       (demand_3_back f run l e).number
       ∙ ap (λ (k : ℕ). step_back_no_after m k (standing_of m (length j₀) (replicate n (back l) ++ os))) (lent_length l (length j₀) j₁ (history f run).held.size)

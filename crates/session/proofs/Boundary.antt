@@ -15,8 +15,7 @@ use Rattle.grid.specs.Calls.{extract_leaves}
 use Rattle.tps.specs.Word.{SYMBOLS}
 use Rattle.tps.specs.Receive.{bit_number}
 use Rattle.session.specs.declared.Session.{Session}
-use Rattle.session.specs.declared.Fed.{Fed}
-use Rattle.session.specs.declared.SteppedBack.{SteppedBack}
+use Rattle.session.specs.declared.Called.{Called}
 use Rattle.session.specs.Journal.{tps_cells, in_place}
 use Rattle.session.specs.Session.{Feeds, step_back_answer, step_number}
 use Rattle.session.specs.History.{Op, Run, standing_of, whole, opened, frame, frames_of, Shown, shown, shown_of}
@@ -57,7 +56,7 @@ counts m s j ys e = (ap (λ (x : Shown). x.count) e, ap (λ (x : Shown). x.frame
 
 module _ {m : Mode} (f : Facts m) {j₀ j : List Float} {os : List Op} {s : Session} (any : Run m j₀ os s j) where
   -- one symbol stands in it, in phase 0, and its TPS cells stand in the first place of the other half
-  pub feed-begins-next : (y d : List Float) (l : ℕ) {r : Fed} {d' p' : List Float} → Feeds m s y d (take l j) r d' p' → bit_number r.answer ≡ ACCEPTED
+  pub feed-begins-next : (y d : List Float) (l : ℕ) {r : Called ℕ} {d' p' : List Float} → Feeds m s y d (take l j) r d' p' → bit_number r.answer ≡ ACCEPTED
       → s.count ≡ SYMBOLS
       → (r.session.count ≡ 1) × (r.session.frames ≡ suc s.frames) × (d' ≡ extract_leaves m 0 y d)
       × (p' ≡ in_place m (suc s.frames) 0 (tps_cells m y) (take l j))
@@ -76,7 +75,7 @@ module _ {m : Mode} (f : Facts m) {j₀ j : List Float} {os : List Op} {s : Sess
         right.journal_cells taken ∙ ap₂ (λ (a b : ℕ). in_place m a b (tps_cells m y) (take l j)) (n.1 ∙ ap suc (sym old.1)) none,
       )
 
-  pub back_into_last : (l : ℕ) {r : SteppedBack} → r ≡ step_back_answer m s (take l j) → step_number r.answer ≡ ACCEPTED → s.count ≡ 1 → 1 ≤ s.frames
+  pub back_into_last : (l : ℕ) {r : Called (Unit {0})} → r ≡ step_back_answer m s (take l j) → step_number r.answer ≡ ACCEPTED → s.count ≡ 1 → 1 ≤ s.frames
       → (r.session.count ≡ SYMBOLS) × (suc r.session.frames ≡ s.frames)
   back_into_last l {r} e taken one later =
       let st = standing_of m (length j₀) os in

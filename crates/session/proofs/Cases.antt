@@ -3,11 +3,13 @@ use mathlib.Core.Path.{◌≡◌, refl}
 use mathlib.Core.Bool.{true}
 use mathlib.Core.Logic.{◌⊎◌, inl, inr, ◌↔◌}
 use mathlib.Core.List.{List, []}
-use Prim.Native.Nat.{ℕ, zero, suc, ◌<◌, ◌≤◌}
+use Prim.Native.Nat.{ℕ, suc, ◌<◌, ◌≤◌}
 use native.Mathlib.Omega.{arith}
 use lib.Ieee.{Float}
 use lib.ListN.{length}
 use borrow.Author.Tests.{lt-ltb, le-ltb}
+use Rattle.std.specs.Prelude.{Option, Some, None}
+use Rattle.ground.specs.declared.Refusal.{Refusal}
 use Rattle.ground.specs.Refusal.{ACCEPTED, EMPTY}
 use Rattle.ground.proofs.Exactly.{at_most}
 use Rattle.carriers.specs.Mode.{Mode}
@@ -19,9 +21,9 @@ use Rattle.session.proofs.Numbers.{crosses_decides, feed-taken, step-empty, step
 use Rattle.session.proofs.Frames.{frame-none}
 
 -- a call that is accepted exactly where P holds is so, or is refused
-by_number_lem : {P : Type 0} (n : ℕ) → (n ≡ ACCEPTED) ↔ P → P ⊎ ((k : ℕ) × (n ≡ suc k))
-by_number_lem zero h = inl (h.0 refl)
-by_number_lem (suc k) h = inr (k, refl)
+by_number_lem : {P : Type 0} (n : Option Refusal) → (n ≡ ACCEPTED) ↔ P → P ⊎ ((k : Refusal) × (n ≡ Some k))
+by_number_lem None h = inl (h.0 refl)
+by_number_lem (Some k) h = inr (k, refl)
 
 -- ---- a feed
 
@@ -33,7 +35,7 @@ module _ (m : Mode) (symbol out journal : ℕ) (st : Standing) where
         λ g. h.1 (g.tall, (g.wide, (g.room, g.free))),
       )
 
-  pub feed_cases : Fits m symbol out journal st ⊎ ((k : ℕ) × (feed_no_after m symbol out journal st ≡ suc k))
+  pub feed_cases : Fits m symbol out journal st ⊎ ((k : Refusal) × (feed_no_after m symbol out journal st ≡ Some k))
   feed_cases = by_number_lem (feed_no_after m symbol out journal st) taken_exactly
 
 -- ---- a step back
@@ -87,7 +89,7 @@ module _ (m : Mode) (journal : ℕ) (st : Standing) where
       λ g. goes_exactly.1 (g.room, (g.some, near-kept st close g.near (at_most st.begun (frames_before st)))),
     )
 
-    pub step_cases : Steps m journal st ⊎ ((k : ℕ) × (step_back_no_after m journal st ≡ suc k))
+    pub step_cases : Steps m journal st ⊎ ((k : Refusal) × (step_back_no_after m journal st ≡ Some k))
     step_cases = by_number_lem (step_back_no_after m journal st) stepped_exactly
 
 -- ---- EMPTY, by what stands

@@ -3,14 +3,13 @@
 use mathlib.Core.Path.{◌≡◌, refl, sym, ap, ap₂, ◌∙◌}
 use mathlib.Core.List.{List, [], ◌∷◌, ◌++◌, map}
 use Prim.Native.Nat.{ℕ, suc, ◌+◌, ◌-◌, ◌*◌, ◌<◌, ◌≤◌, min}
-use native.Mathlib.Nat.{add-sub_cancel_left}
+use native.Mathlib.Nat.{suc-mul}
 use native.Mathlib.Numerals.{add-one}
 use native.Mathlib.Omega.{arith}
 use lib.Ieee.{Float}
 use lib.ListN.{length, take, drop, set, replicate, length-set}
-use lib.Seq.{take-set-le}
+use lib.Seq.{take-set-le, take_at, drop_at, drop-drop}
 use borrow.Author.Tests.{le-leb, lt-leb}
-use borrow.Rule.Slice.PartMut.{mid_of}
 use Rattle.ground.specs.Refusal.{ACCEPTED}
 use Rattle.carriers.specs.Mode.{Mode}
 use Rattle.tps.specs.declared.receiver.TpsDecoder.{TpsDecoder}
@@ -61,14 +60,18 @@ module _ (m : Mode) where
   bits_held [] p l = record { count = refl; size = refl; bits = refl }
   bits_held (c ∷ cs) p l = bits-held-next (length cs) (decoder_on m cs) c p.0 (bits_held cs p.1 (omega arith)) l
 
-  -- feeding it one place more of a frame
-  pub replay_turn : (frame : List Float) (i : ℕ) {d : TpsDecoder} {f : tps.Fed} → d ≡ decoder_on m (places_in m i frame)
-      → f ≡ receive.feed_answer m d (mid_of (i * place m) (i * place m + place m - i * place m) frame) → f.decoder ≡ decoder_on m (places_in m (i + 1) frame)
+  -- feeding it one place more of a frame, where what is left of the frame behind the first i places is that place and what is left then
+  pub replay_turn : (frame : List Float) (i : ℕ) (cells left' : List Float) {left : List Float} {d : TpsDecoder} {f : tps.Fed} → left ≡ drop (i * place m) frame
+      → left ≡ cells ++ left' → length cells ≡ place m → d ≡ decoder_on m (places_in m i frame) → f ≡ receive.feed_answer m d cells
+      → (left' ≡ drop (suc i * place m) frame) × (f.decoder ≡ decoder_on m (places_in m (suc i) frame))
   unfolding decoder_on places_in
-  replay_turn frame i ed ef =
-      ap (λ (x : tps.Fed). x.decoder) ef
-      ∙ ap₂ (λ (x : TpsDecoder) (n : ℕ). (receive.feed_answer m x (take n (drop (i * place m) frame))).decoder) ed (add-sub_cancel_left (i * place m) (place m))
-      ∙ ap (λ (n : ℕ). decoder_on m (places_in m n frame)) (sym (add-one i))
+  replay_turn frame i cells left' el ec n ed ef =
+      let w = place m in
+      let c : cells ≡ take w (drop (i * w) frame) = sym (ap (take w) (sym el ∙ ec) ∙ take_at cells left' w n) in
+      let r : left' ≡ drop w (drop (i * w) frame) = sym (ap (drop w) (sym el ∙ ec) ∙ drop_at cells left' w n) in (
+        r ∙ drop-drop w (i * w) frame ∙ ap (λ (k : ℕ). drop k frame) (sym (suc-mul i w)),
+        ap (λ (x : tps.Fed). x.decoder) ef ∙ ap₂ (λ (x : TpsDecoder) (y : List Float). (receive.feed_answer m x y).decoder) ed c,
+      )
 
   -- ---- where the next symbol goes, with the session in frame c
 

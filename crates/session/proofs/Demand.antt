@@ -11,11 +11,10 @@ use Rattle.ground.specs.Refusal.{ACCEPTED}
 use Rattle.carriers.specs.Mode.{Mode, data_size}
 use Rattle.carriers.proofs.Facts.{Facts}
 use Rattle.tps.specs.declared.receiver.TpsDecoder.{TpsDecoder}
-use Rattle.tps.specs.declared.word.Unpacked.{Unpacked}
+use Rattle.tps.specs.Packing.{Unpacked}
 use Rattle.tps.specs.Receive as receive
 use Rattle.session.specs.declared.Session.{Session}
-use Rattle.session.specs.declared.Fed.{Fed}
-use Rattle.session.specs.declared.SteppedBack.{SteppedBack}
+use Rattle.session.specs.declared.Called.{Called}
 use Rattle.session.specs.Journal.{journal_size, frame_in, places_in, decoder_on}
 use Rattle.session.specs.Session.{decoder_of, Feeds, step_back_answer, step_number, Words}
 use Rattle.session.specs.History.{Op, Run, frame, frames_before, behind_of, standing_of, feeds, cells_of, decoder_after, Shown, shown, shown_of}
@@ -66,7 +65,7 @@ module _ {m : Mode} (f : Facts m) {j₀ j : List Float} {os : List Op} {s : Sess
       ∙ ap₂ (λ (k i : ℕ). decoder_on m (places_in m k (frame_in m i j))) (n ∙ sym (count_is f h)) (sym (frames-are f h))
 
   -- a feed is right, and accepted exactly where the lengths suffice and not all of frame 1,000,000 stands
-  module _ (y d : List Float) (l : ℕ) {r : Fed} {d' p' : List Float} (fed : Feeds m s y d (take l j) r d' p') where
+  module _ (y d : List Float) (l : ℕ) {r : Called ℕ} {d' p' : List Float} (fed : Feeds m s y d (take l j) r d' p') where
     pub demand_3_feed : FeedRight m (standing_of m (length j₀) os) s y d (take l j) r d' p'
     demand_3_feed =
         fed_right f (history f any) y d l fed (feed_cases m (length y) (length d) (length (take l j)) (standing_of m (length j₀) os))
@@ -77,7 +76,7 @@ module _ {m : Mode} (f : Facts m) {j₀ j : List Float} {os : List Op} {s : Sess
         rw demand_3_feed.number (taken_exactly m (length y) (length d) (length (take l j)) (standing_of m (length j₀) os))
 
   -- a step back is right, and accepted exactly where the journal suffices, some symbol stands and the one before it is kept
-  module _ (l : ℕ) {r : SteppedBack} (e : r ≡ step_back_answer m s (take l j)) where
+  module _ (l : ℕ) {r : Called (Unit {0})} (e : r ≡ step_back_answer m s (take l j)) where
     pub demand_3_back : BackRight m (standing_of m (length j₀) os) s (take l j) r
     demand_3_back = stepped_right f (history f any) l e (step_cases m (length (take l j)) (standing_of m (length j₀) os) (history f any).held.close)
 

@@ -3,11 +3,14 @@
 use mathlib.Core.Path.{◌≡◌, refl, sym, ap, ap₂, ◌∙◌}
 use mathlib.Core.Logic.{◌⊎◌, inl, inr}
 use mathlib.Core.List.{List, [], ◌∷◌}
-use Prim.Native.Nat.{ℕ, suc, ◌%◌, ◌<◌, ◌≤◌}
+use Prim.Native.Nat.{ℕ, ◌%◌, ◌<◌, ◌≤◌}
 use native.Mathlib.Omega.{arith}
 use lib.Ieee.{Float}
 use lib.ListN.{length, take}
 use borrow.Author.Tests.{le-ltb}
+use Rattle.std.specs.Prelude.{Option, Some}
+use Rattle.std.proofs.lemmas.Option.{none-some}
+use Rattle.ground.specs.declared.Refusal.{Refusal}
 use Rattle.ground.specs.Refusal.{ACCEPTED}
 use Rattle.carriers.specs.Mode.{Mode, symbol_size, data_size}
 use Rattle.carriers.proofs.Facts.{Facts}
@@ -15,7 +18,7 @@ use Rattle.grid.specs.Calls.{extract_leaves}
 use Rattle.tps.specs.Word.{SYMBOLS}
 use Rattle.tps.specs.Receive as receive
 use Rattle.session.specs.declared.Session.{Session}
-use Rattle.session.specs.declared.Fed.{Fed}
+use Rattle.session.specs.declared.Called.{Called}
 use Rattle.session.specs.Journal.{tps_cells, in_place}
 use Rattle.session.specs.Session.{decoder_of, feed_no, open_of, fed_by, Feeds}
 use Rattle.session.specs.History.{Standing, opened, frame, frames_of, one_more, feed_no_after, decoder_before, extractor_after}
@@ -38,12 +41,12 @@ extractor_phase m x h (y ∷ ys) t =
     simp (le-ltb (length y) (symbol_size m) t.0, le-ltb (length x) (data_size m) h, p) (omega arith)
 
 -- the journal j is lent up to l
-module _ {m : Mode} (f : Facts m) {lj : ℕ} {st : Standing} {s : Session} {j : List Float} (h : Holds m lj st s j) (y d : List Float) (l : ℕ) {r : Fed}
+module _ {m : Mode} (f : Facts m) {lj : ℕ} {st : Standing} {s : Session} {j : List Float} (h : Holds m lj st s j) (y d : List Float) (l : ℕ) {r : Called ℕ}
     {d' p' : List Float} (c : Feeds m s y d (take l j) r d' p') where
   number_is : feed_no m s y d (take l j) ≡ feed_no_after m (length y) (length d) (length (take l j)) st
   number_is = feed-says f h.held (length y) (length d) (length (take l j))
 
-  pub fed_right : Fits m (length y) (length d) (length (take l j)) st ⊎ ((k : ℕ) × (feed_no_after m (length y) (length d) (length (take l j)) st ≡ suc k))
+  pub fed_right : Fits m (length y) (length d) (length (take l j)) st ⊎ ((k : Refusal) × (feed_no_after m (length y) (length d) (length (take l j)) st ≡ Some k))
       → FeedRight m st s y d (take l j) r d' p'
   unfolding fed_by frame frames_of frame_before
   fed_right (inl g) =
@@ -58,15 +61,15 @@ module _ {m : Mode} (f : Facts m) {lj : ℕ} {st : Standing} {s : Session} {j : 
       let few : n < SYMBOLS = opened-few (frame ys) in
       let w = fed_holds f o few g.room y in
       let a : r.answer ≡ (receive.feed_answer m (decoder_before m ys) t).answer =
-      ap (λ (x : Fed). x.answer) q.0 ∙ ap (λ (x : Session). (receive.feed_answer m (decoder_of x) t).answer) o.session
+      ap (λ (x : Called ℕ). x.answer) q.0 ∙ ap (λ (x : Session). (receive.feed_answer m (decoder_of x) t).answer) o.session
       in
       let k : receive.bit_number r.answer ≡ ACCEPTED =
       ap receive.bit_number a
-      ∙ ap (λ (z : ℕ). receive.bit_number (receive.bit_answer z (receive.fed_bit m (decoder_before m ys) t)))
+      ∙ ap (λ (z : Option Refusal). receive.bit_number (receive.bit_answer z (receive.fed_bit m (decoder_before m ys) t)))
       (fed-number m n (decoder_before m ys) t (tps-length f y) (cells-held f xs (omega arith)) few)
       in
       let js : p' ≡ in_place m (frames_of (y ∷ ys)) n t p = q.2 ∙ ap₂ (λ (a b : ℕ). in_place m a b t p) (frames-are f o) (count_is f o) in
-      let ss : r.session ≡ (fed_by m (open_of m s) t).session = ap (λ (x : Fed). x.session) q.0 in
+      let ss : r.session ≡ (fed_by m (open_of m s) t).session = ap (λ (x : Called ℕ). x.session) q.0 in
       let v : Holds m (length p) (one_more y st) r.session p' = record { held = rw (js, ss) w; tall = (g.tall, h.tall) } in
       record {
         number = k ∙ sym e;
@@ -81,12 +84,12 @@ module _ {m : Mode} (f : Facts m) {lj : ℕ} {st : Standing} {s : Session} {j : 
       }
   fed_right (inr k) =
       let q = same-fed c (fed-refused m s y d (take l j) k.0 (number_is ∙ k.1)) in
-      let a : receive.bit_number r.answer ≡ suc k.0 = ap (λ (x : Fed). receive.bit_number x.answer) q.0 in
+      let a : receive.bit_number r.answer ≡ Some k.0 = ap (λ (x : Called ℕ). receive.bit_number x.answer) q.0 in
       record {
         number = a ∙ sym k.1;
-        answer = λ z. absurd (omega (arith, a, z));
-        stands = λ z. absurd (omega (arith, a, z));
-        data_cells = λ z x h. absurd (omega (arith, a, z));
-        journal_cells = λ z. absurd (omega (arith, a, z));
-        refused = λ z. (ap (λ (x : Fed). x.session) q.0, q.1, q.2);
+        answer = λ z. absurd (none-some _ (sym z ∙ a));
+        stands = λ z. absurd (none-some _ (sym z ∙ a));
+        data_cells = λ z x h. absurd (none-some _ (sym z ∙ a));
+        journal_cells = λ z. absurd (none-some _ (sym z ∙ a));
+        refused = λ z. (ap (λ (x : Called ℕ). x.session) q.0, q.1, q.2);
       }

@@ -3,12 +3,13 @@ use mathlib.Core.Path.{◌≡◌, refl, ap, ◌∙◌}
 use mathlib.Core.Bool.{Bool, true, false, cond}
 use mathlib.Core.Logic.{◌⊎◌, inl, inr}
 use mathlib.Core.List.{List, [], ◌∷◌, ◌++◌}
-use Prim.Native.Nat.{ℕ, zero, suc, ◌+◌, ◌*◌, ◌%◌, ◌<◌, ◌≤◌, min}
+use Prim.Native.Nat.{ℕ, suc, ◌+◌, ◌*◌, ◌%◌, ◌<◌, ◌≤◌, min}
 use native.Mathlib.Nat.{eq-zero-or-pos, add-mul, suc-mul, mul-le-mul_right}
 use native.Mathlib.Omega.{arith}
 use lib.Ieee.{Float}
 use lib.ListN.{length, take, drop}
 use borrow.Author.Tests.{leb-true, leb-false}
+use Rattle.ground.proofs.Exactly.{at_most}
 use Rattle.carriers.specs.Mode.{Mode}
 use Rattle.tps.specs.Word.{SYMBOLS}
 use Rattle.session.specs.Journal.{place, journal_size, place_of, frame_in, in_place}
@@ -82,13 +83,6 @@ first_or_later ys = (crosses_decides (frames_of ys) (suc (length (frame ys)))).f
 
 -- ---- the journal
 
-half_of : (r : ℕ) → r < 2 → (r ≡ 0) ⊎ (r ≡ 1)
-half_of zero h = inl refl
-half_of (suc r) h = inr (omega arith)
-
-halves : (c : ℕ) → (c % 2 ≡ 0) ⊎ (c % 2 ≡ 1)
-halves c = half_of (c % 2) (omega arith)
-
 -- the number of the place of symbol n of frame c
 abbrev number : ℕ → ℕ → ℕ
 number c n = c % 2 * SYMBOLS + n
@@ -113,7 +107,7 @@ module _ (m : Mode) where
       → take (n * place m) (frame_in m c (take l j)) ≡ take (n * place m) (frame_in m c j)
   lent_frame c n l j few h =
       let k : place_of m c 0 + n * place m ≤ journal_size m = fits_row (number c 0) n (2 * SYMBOLS) (place m) (omega arith) in
-      lent_part (place_of m c 0) (n * place m) l j (omega arith) (omega arith)
+      lent_part (place_of m c 0) (n * place m) l j (omega arith)
 
   module _ (c n : ℕ) (l : n < SYMBOLS) (t j : List Float) (lt : length t ≡ place m) where
     inside : place_of m c n + place m ≤ journal_size m
@@ -140,17 +134,17 @@ module _ (m : Mode) where
           ap (λ (z : ℕ). take z (frame_in m c (put (place m) (place_of m c n) t j))) (suc-mul n (place m))
           ∙ put_grows (place m) (place_of m c n) t j lt room (place_of m c 0) (n * place m) r (place_far (c % 2 * SYMBOLS) n (place m)) e
 
-      by_half : (k : ℕ) → k ≤ SYMBOLS → (c % 2 ≡ 0) ⊎ (c % 2 ≡ 1)
+      by_half : (k : ℕ) → k ≤ SYMBOLS → (1 ≤ c % 2) ⊎ (c % 2 < 1)
           → take (k * place m) (frame_in m (suc c) (in_place m c n t j)) ≡ take (k * place m) (frame_in m (suc c) j)
       unfolding in_place
-      by_half k q (inl e) =
+      by_half k q (inr e) =
           ap (take (k * place m))
           (put-before (place m) (place_of m c n) t j lt room (place_of m (suc c) 0)
           (fits_below (number c n) (number (suc c) 0) (place m) (omega arith)))
-      by_half k q (inr e) =
+      by_half k q (inl e) =
           put-behind (place m) (place_of m c n) t j lt room (place_of m (suc c) 0) (k * place m)
           (fits_row (number (suc c) 0) k (number c n) (place m) (omega arith))
 
       pub other-stays : (k : ℕ) → k ≤ SYMBOLS
           → take (k * place m) (frame_in m (suc c) (in_place m c n t j)) ≡ take (k * place m) (frame_in m (suc c) j)
-      other-stays k q = by_half k q (halves c)
+      other-stays k q = by_half k q (at_most 1 (c % 2))

@@ -6,6 +6,7 @@ use Prim.Native.Nat.{ℕ, ◌+◌, ◌-◌, ◌≤◌, min}
 use native.Mathlib.Omega.{arith}
 use lib.Ieee.{Float}
 use lib.ListN.{length, take, drop, length-append, length-take, length-drop, take-append-drop}
+use Rattle.std.proofs.lemmas.List.{drop-take}
 use lib.Seq.{take-take, take-add, take_at, drop_at, drop-drop, length-take-le, take-append-le, drop-append-le, drop-append-add}
 
 pub lent_length : (l lj : ℕ) (j : List Float) → length j ≡ lj → length (take l j) ≡ min l lj
@@ -26,17 +27,11 @@ put_lent w a l y j h =
     rw (take-take a l j i, append_assoc (take a j) (y ++ drop (a + w) (take l j)) (drop l j), append_assoc y (drop (a + w) (take l j)) (drop l j), r)
 
 -- a part that lies in what is lent
-drop-take : (p l : ℕ) (j : List Float) → p ≤ l → p ≤ length j → drop p (take l j) ≡ take (l - p) (drop p j)
-drop-take p l j h i =
-    let k : l ≡ p + (l - p) = omega arith in
-    let d : take l j ≡ take p j ++ take (l - p) (drop p j) = ap (λ (x : ℕ). take x j) k ∙ take-add p (l - p) j in
-    ap (drop p) d ∙ drop_at (take p j) (take (l - p) (drop p j)) p (length-take-le p j i)
-
-pub lent_part : (p n l : ℕ) (j : List Float) → p + n ≤ l → p ≤ length j → take n (drop p (take l j)) ≡ take n (drop p j)
-lent_part p n l j h i =
+pub lent_part : (p n l : ℕ) (j : List Float) → p + n ≤ l → take n (drop p (take l j)) ≡ take n (drop p j)
+lent_part p n l j h =
     let b : n ≤ l - p = omega arith in
-    let k : p ≤ l = omega arith in
-    ap (take n) (drop-take p l j k i) ∙ take-take n (l - p) (drop p j) b
+    let k : l ≡ p + (l - p) = omega arith in
+    ap (λ (x : ℕ). take n (drop p (take x j))) k ∙ ap (take n) (drop-take p (l - p) j) ∙ take-take n (l - p) (drop p j) b
 
 module _ (w a : ℕ) (y j : List Float) (ly : length y ≡ w) (fits : a + w ≤ length j) where
   pub put-length : length (put w a y j) ≡ length j
@@ -62,7 +57,7 @@ module _ (w a : ℕ) (y j : List Float) (ly : length y ≡ w) (fits : a + w ≤ 
       let lp : length (take a j) ≡ a = length-take-le a j (omega arith) in
       let e : drop p (put w a y j) ≡ drop p (take a j) ++ r = drop-append-le p (take a j) r (omega arith) in
       let k : n ≤ length (drop p (take a j)) = rw (length-drop, lp) (omega arith) in
-      ap (take n) e ∙ take-append-le n (drop p (take a j)) r k ∙ lent_part p n a j h (omega arith)
+      ap (take n) e ∙ take-append-le n (drop p (take a j)) r k ∙ lent_part p n a j h
 
   -- a part that begins behind what was put
   pub put-before : (p : ℕ) → a + w ≤ p → drop p (put w a y j) ≡ drop p j

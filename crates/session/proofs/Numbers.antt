@@ -4,10 +4,12 @@ use mathlib.Core.Path.{◌≡◌}
 use mathlib.Core.Bool.{not}
 use mathlib.Core.Logic.{◌⊎◌, ◌↔◌}
 use mathlib.Core.List.{List, [], ◌∷◌}
-use Prim.Native.Nat.{ℕ, suc, ◌<◌, ◌≤◌}
+use Prim.Native.Nat.{ℕ, ◌<◌, ◌≤◌}
 use lib.Dec.{T, eqb, ltb}
 use lib.Ieee.{Float}
-use Rattle.ground.specs.Refusal.{ACCEPTED, LENGTH, OUTPUT_SHORT, FULL, EMPTY, Test, ◌gives◌, first_of}
+use Rattle.std.specs.Prelude.{Option, Some, Ok}
+use Rattle.ground.specs.declared.Refusal.{Refusal}
+use Rattle.ground.specs.Refusal.{ACCEPTED, LENGTH, OUTPUT_SHORT, FULL, EMPTY, code, Test, ◌gives◌, first_of}
 use Rattle.ground.proofs.Exactly.{
   Decides,
   less_decides,
@@ -23,7 +25,6 @@ use Rattle.ground.proofs.Exactly.{
 use Rattle.carriers.specs.Mode.{Mode, symbol_size, data_size}
 use Rattle.grid.specs.Calls.{extract_leaves}
 use Rattle.session.specs.declared.Session.{Session}
-use Rattle.session.specs.declared.StepBack.TheVariants as step
 use Rattle.tps.specs.Word.{SYMBOLS}
 use Rattle.session.specs.Journal.{tps_cells, journal_size, in_place}
 use Rattle.session.specs.Session.{
@@ -33,7 +34,7 @@ use Rattle.session.specs.Session.{
   feed_no_of,
   open_of,
   fed_by,
-  fed_refused,
+  refused,
   feed_no,
   Feeds,
   crosses,
@@ -41,7 +42,6 @@ use Rattle.session.specs.Session.{
   step_back_no_of,
   step_back_no,
   back_of,
-  stepped_refused,
   step_back_answer,
 }
 
@@ -83,7 +83,7 @@ module _ (m : Mode) (symbol out journal frames n : ℕ) where
       given-either OUTPUT_SHORT behind-data (less_decides out (data_size m)) (given-here OUTPUT_SHORT last (less_decides journal (journal_size m)) tt))
 
   -- the lengths suffice, and the last test is left
-  suffice : {P : Type 0} (k : ℕ) → T (not (eqb k LENGTH)) → T (not (eqb k OUTPUT_SHORT)) → (first_of last ≡ k) ↔ P
+  suffice : {P : Type 0} (k : Option Refusal) → T (not (eqb (code k) (code LENGTH))) → T (not (eqb (code k) (code OUTPUT_SHORT))) → (first_of last ≡ k) ↔ P
       → (feed_no_of m symbol out journal frames n ≡ k) ↔ ((symbol_size m ≤ symbol) × ((data_size m ≤ out) × ((journal_size m ≤ journal) × P)))
   unfolding feed_no_of
   suffice k a b h =
@@ -129,7 +129,7 @@ module _ (m : Mode) (journal frames behind n : ℕ) where
 -- ---- the promises by cases of the number
 
 module _ (m : Mode) (s : Session) (symbol out journal : List Float) where
-  pub fed-refused : (k : ℕ) → feed_no m s symbol out journal ≡ suc k → Feeds m s symbol out journal (fed_refused (suc k) s) out journal
+  pub fed-refused : (k : Refusal) → feed_no m s symbol out journal ≡ Some k → Feeds m s symbol out journal (refused k s) out journal
   fed-refused k e = record { result = simp e; data_cells = simp e; journal_cells = simp e }
 
   pub fed-accepted :
@@ -139,8 +139,8 @@ module _ (m : Mode) (s : Session) (symbol out journal : List Float) where
   fed-accepted e = record { result = simp e; data_cells = simp e; journal_cells = simp e }
 
 module _ (m : Mode) (s : Session) (journal : List Float) where
-  pub stepped_refused_lem : (k : ℕ) → step_back_no m s journal ≡ suc k → step_back_answer m s journal ≡ stepped_refused (suc k) s
+  pub stepped_refused_lem : (k : Refusal) → step_back_no m s journal ≡ Some k → step_back_answer m s journal ≡ refused k s
   stepped_refused_lem k e = simp e
 
-  pub stepped_taken : step_back_no m s journal ≡ ACCEPTED → step_back_answer m s journal ≡ record { answer = step.Done; session = back_of m s journal }
+  pub stepped_taken : step_back_no m s journal ≡ ACCEPTED → step_back_answer m s journal ≡ record { answer = Ok tt; session = back_of m s journal }
   stepped_taken e = simp e

@@ -8,13 +8,14 @@ use native.Mathlib.Omega.{arith}
 use lib.Ieee.{Float}
 use lib.ListN.{length, take, drop, take-append-drop}
 use borrow.Author.Tests.{leb-true}
+use Rattle.std.specs.Prelude.{Some}
+use Rattle.ground.specs.declared.Refusal.{Refusal}
 use Rattle.ground.specs.Refusal.{ACCEPTED}
 use Rattle.carriers.specs.Mode.{Mode}
 use Rattle.carriers.proofs.Facts.{Facts}
 use Rattle.tps.specs.Word.{SYMBOLS}
 use Rattle.session.specs.declared.Session.{Session}
-use Rattle.session.specs.declared.Fed.{Fed}
-use Rattle.session.specs.declared.SteppedBack.{SteppedBack}
+use Rattle.session.specs.declared.Called.{Called}
 use Rattle.session.specs.Journal.{tps_cells, place, journal_size, frame_in, in_place, decoder_on}
 use Rattle.session.specs.Session.{standing, frame_of, fresh, feed_no_of, feed_no, open_of, fed_by, crosses, step_back_no_of, step_back_no, back_to, back_over, back_of}
 use Rattle.session.specs.History.{
@@ -130,7 +131,7 @@ module _ {m : Mode} (f : Facts m) where
     feed-number : feed_no m s y c.given (take l j) ≡ feed_no_after m (length y) room (min l lj) st
     feed-number = rw (c.given_length, lent_length l lj j h.held.size) (feed-says h.held (length y) room (min l lj))
 
-    fed-on : Fits m (length y) room (min l lj) st ⊎ ((k : ℕ) × (feed_no_after m (length y) room (min l lj) st ≡ suc k))
+    fed-on : Fits m (length y) room (min l lj) st ⊎ ((k : Refusal) × (feed_no_after m (length y) room (min l lj) st ≡ Some k))
         → Holds m lj (after m lj (feed y room l) st) s' j'
     unfolding after frame frames_of frame_before
     fed-on (inl g) =
@@ -147,12 +148,12 @@ module _ {m : Mode} (f : Facts m) where
         ∙ ap₂ (λ (a b : ℕ). in_place m a b t (take l j) ++ drop l j) (frames-are o) (count_is o)
         ∙ place_lent m (frames_of (y ∷ ys)) (length (opened (frame ys))) few t j (tps-length f y) l (omega (arith, h.held.size, g.room))
         in
-        let ss : s' ≡ (fed_by m (open_of m s) t).session = c.session ∙ ap (λ (x : Fed). x.session) p.0 in
+        let ss : s' ≡ (fed_by m (open_of m s) t).session = c.session ∙ ap (λ (x : Called ℕ). x.session) p.0 in
         rw e (record { held = rw (js, ss) w; tall = (g.tall, h.tall) })
     fed-on (inr k) =
         let p = same-fed c.promise (fed-refused m s y c.given (take l j) k.0 (feed-number ∙ k.1)) in
         let js : j' ≡ j = c.journal ∙ ap (λ (z : List Float). z ++ drop l j) p.2 ∙ take-append-drop l j in
-        let ss : s' ≡ s = c.session ∙ ap (λ (x : Fed). x.session) p.0 in
+        let ss : s' ≡ s = c.session ∙ ap (λ (x : Called ℕ). x.session) p.0 in
         rw (k.1, js, ss) h
 
   -- ---- a step back
@@ -194,16 +195,16 @@ module _ {m : Mode} (f : Facts m) where
     step_number_lem : step_back_no m s (take l j) ≡ step_back_no_after m (min l lj) st
     step_number_lem = rw (lent_length l lj j h.held.size) (step-says h.held (min l lj))
 
-    back_on : Steps m (min l lj) st ⊎ ((k : ℕ) × (step_back_no_after m (min l lj) st ≡ suc k)) → Holds m lj (after m lj (back l) st) s' j'
+    back_on : Steps m (min l lj) st ⊎ ((k : Refusal) × (step_back_no_after m (min l lj) st ≡ Some k)) → Holds m lj (after m lj (back l) st) s' j'
     unfolding after
     back_on (inl g) =
         let e : step_back_no_after m (min l lj) st ≡ ACCEPTED = (stepped_exactly m _ st h.held.close).1 g in
         let ss : s' ≡ back_of m s (take l j) =
-        c.session ∙ ap (λ (x : SteppedBack). x.session) (c.promise ∙ stepped_taken m s (take l j) (step_number_lem ∙ e))
+        c.session ∙ ap (λ (x : Called (Unit {0})). x.session) (c.promise ∙ stepped_taken m s (take l j) (step_number_lem ∙ e))
         in
         rw (e, ss, c.journal) (one_fewer_lem l st.symbols st.begun h g)
     back_on (inr k) =
-        let ss : s' ≡ s = c.session ∙ ap (λ (x : SteppedBack). x.session) (c.promise ∙ stepped_refused_lem m s (take l j) k.0 (step_number_lem ∙ k.1)) in
+        let ss : s' ≡ s = c.session ∙ ap (λ (x : Called (Unit {0})). x.session) (c.promise ∙ stepped_refused_lem m s (take l j) k.0 (step_number_lem ∙ k.1)) in
         rw (k.1, ss, c.journal) h
 
   -- ---- any call

@@ -8,19 +8,19 @@ use Prim.Native.Nat.{ℕ, ◌<◌, ◌≤◌}
 use native.Mathlib.Omega.{arith}
 use lib.Ieee.{Float}
 use lib.ListN.{length, take}
-use Rattle.ground.specs.Refusal.{LENGTH, OUTPUT_SHORT, NO_WORD, RESERVED, FULL, EMPTY, INCOMPLETE}
+use Rattle.std.specs.Prelude.{Err}
+use Rattle.ground.specs.declared.Refusal.TheVariants.{NoWord, Reserved, Incomplete}
+use Rattle.ground.specs.Refusal.{LENGTH, OUTPUT_SHORT, FULL, EMPTY}
 use Rattle.ground.proofs.Exactly.{said_exactly}
 use Rattle.carriers.specs.Mode.{Mode, symbol_size, data_size}
 use Rattle.carriers.proofs.Facts.{Facts}
 use Rattle.bch.specs.Code.{Lone}
-use Rattle.tps.specs.declared.word.Unpacked.{Unpacked}
-use Rattle.tps.specs.declared.word.Unpacked.TheVariants.{Refused}
+use Rattle.tps.specs.Packing.{Unpacked}
 use Rattle.tps.specs.Word.{SYMBOLS}
 use Rattle.tps.specs.Receive as receive
 use Rattle.tps.proofs.WordRefusals.{Reserves}
 use Rattle.session.specs.declared.Session.{Session}
-use Rattle.session.specs.declared.Fed.{Fed}
-use Rattle.session.specs.declared.SteppedBack.{SteppedBack}
+use Rattle.session.specs.declared.Called.{Called}
 use Rattle.session.specs.Journal.{journal_size}
 use Rattle.session.specs.Session.{FRAMES, Feeds, step_back_answer, step_number, Words}
 use Rattle.session.specs.History.{Op, Run, frame, frames_before, many, standing_of}
@@ -35,7 +35,7 @@ use Rattle.session.proofs.Demand.{demand_3_feed, demand_3_back, words_after, dem
 module _ {m : Mode} (f : Facts m) {j₀ j : List Float} {os : List Op} {s : Session} (any : Run m j₀ os s j) where
   -- ---- a feed
 
-  module _ (y d : List Float) (l : ℕ) {r : Fed} {d' p' : List Float} (fed : Feeds m s y d (take l j) r d' p') where
+  module _ (y d : List Float) (l : ℕ) {r : Called ℕ} {d' p' : List Float} (fed : Feeds m s y d (take l j) r d' p') where
     pub feed_length_exactly : (receive.bit_number r.answer ≡ LENGTH) ↔ (length y < symbol_size m)
     feed_length_exactly = said_exactly (demand_3_feed f any y d l fed).number (feed-length m _ _ _ _ _)
 
@@ -56,7 +56,7 @@ module _ {m : Mode} (f : Facts m) {j₀ j : List Float} {os : List Op} {s : Sess
 
   -- ---- a step back
 
-  module _ (l : ℕ) {r : SteppedBack} (e : r ≡ step_back_answer m s (take l j)) where
+  module _ (l : ℕ) {r : Called (Unit {0})} (e : r ≡ step_back_answer m s (take l j)) where
     pub back_short_exactly : (step_number r.answer ≡ OUTPUT_SHORT) ↔ (length (take l j) < journal_size m)
     back_short_exactly = said_exactly (demand_3_back f any l e).number (step-short m _ _ _ _)
 
@@ -71,13 +71,13 @@ module _ {m : Mode} (f : Facts m) {j₀ j : List Float} {os : List Op} {s : Sess
   -- ---- the word
 
   module _ (r : Unpacked) (w : Words s r) where
-    pub word_incomplete_exactly : (r ≡ Refused INCOMPLETE) ↔ (many (standing_of m (length j₀) os) < SYMBOLS)
+    pub word_incomplete_exactly : (r ≡ Err Incomplete) ↔ (many (standing_of m (length j₀) os) < SYMBOLS)
     word_incomplete_exactly = (demand_3_word f any r w).incomplete
 
-    pub word_none_exactly : (r ≡ Refused NO_WORD) ↔ ((many (standing_of m (length j₀) os) ≡ SYMBOLS) × Lone (received m (standing_of m (length j₀) os).symbols))
+    pub word_none_exactly : (r ≡ Err NoWord) ↔ ((many (standing_of m (length j₀) os) ≡ SYMBOLS) × Lone (received m (standing_of m (length j₀) os).symbols))
     word_none_exactly = (demand_3_word f any r w).none
 
-    pub word_reserved_exactly : (r ≡ Refused RESERVED)
+    pub word_reserved_exactly : (r ≡ Err Reserved)
         ↔ ((many (standing_of m (length j₀) os) ≡ SYMBOLS) × Reserves (received m (standing_of m (length j₀) os).symbols))
     word_reserved_exactly =
         let h = history f any in

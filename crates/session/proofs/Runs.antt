@@ -8,10 +8,9 @@ use Rattle.ground.specs.Answer.{kept}
 use Rattle.carriers.specs.Mode.{Mode}
 use Rattle.ground.specs.Cells.{plus_zero}
 use Rattle.session.specs.declared.Session.{Session}
-use Rattle.session.specs.declared.Fed.{Fed}
-use Rattle.session.specs.declared.SteppedBack.{SteppedBack}
+use Rattle.session.specs.declared.Called.{Called}
 use Rattle.session.specs.Journal.{tps_cells, in_place}
-use Rattle.session.specs.Session.{standing, frame_of, fresh, feed_no_of, open_of, fed_by, fed_refused, feed_answer, feed_data_leaves, feed_journal_leaves, step_back_answer}
+use Rattle.session.specs.Session.{standing, frame_of, fresh, feed_no_of, open_of, fed_by, called, feed_answer, feed_data_leaves, feed_journal_leaves, step_back_answer}
 use Rattle.session.specs.History.{Op, feed, back, reset, Call, Run, start, next}
 
 pub runs : (m : Mode) (j₀ : List Float) (os : List Op) → (s : Session) × (j : List Float) × Run m j₀ os s j
@@ -46,11 +45,7 @@ runs m j₀ (reset ∷ os) = let (s, j, r) = runs m j₀ os in (fresh m, j, next
 module _ (m : Mode) (s : Session) (y p d d' : List Float) (n : length d ≡ length d') where
   same-answers : feed_answer m s y d p ≡ feed_answer m s y d' p
   same-answers =
-      ap
-      (λ (k : ℕ).
-      kept (feed_no_of m (length y) k (length p) (frame_of s) (standing s)) (fed_by m (open_of m s) (tps_cells m y))
-      (fed_refused (feed_no_of m (length y) k (length p) (frame_of s) (standing s)) s))
-      n
+      ap (λ (k : ℕ). called (feed_no_of m (length y) k (length p) (frame_of s) (standing s)) (fed_by m (open_of m s) (tps_cells m y)) s) n
 
   same_journals : feed_journal_leaves m s y d p ≡ feed_journal_leaves m s y d' p
   same_journals =
@@ -63,14 +58,14 @@ same_call : (m : Mode) (o : Op) (s : Session) (j : List Float) {s₁ s₂ : Sess
 same_call m (feed y room l) s j a b =
     let n : length a.given ≡ length b.given = a.given_length ∙ sym b.given_length in (
       a.session
-          ∙ ap (λ (x : Fed). x.session) (a.promise.result ∙ same-answers m s y (take l j) a.given b.given n ∙ sym b.promise.result)
+          ∙ ap (λ (x : Called ℕ). x.session) (a.promise.result ∙ same-answers m s y (take l j) a.given b.given n ∙ sym b.promise.result)
           ∙ sym b.session,
       a.journal
           ∙ ap (λ (x : List Float). x ++ drop l j) (a.promise.journal_cells ∙ same_journals m s y (take l j) a.given b.given n ∙ sym b.promise.journal_cells)
           ∙ sym b.journal,
     )
 same_call m (back l) s j a b = (
-  a.session ∙ ap (λ (x : SteppedBack). x.session) (a.promise ∙ sym b.promise) ∙ sym b.session,
+  a.session ∙ ap (λ (x : Called (Unit {0})). x.session) (a.promise ∙ sym b.promise) ∙ sym b.session,
   a.journal ∙ sym b.journal,
 )
 same_call m reset s j a b = (a.promise ∙ sym b.promise, a.journal ∙ sym b.journal)

@@ -9,7 +9,7 @@ use lib.Ieee.{Float}
 use borrow.Author.Tests.{le-leb, lt-leb, le-ltb, lt-ltb, ne_eqb}
 use Rattle.ground.proofs.Exactly.{at_most}
 use Rattle.carriers.specs.Mode.{Mode}
-use Rattle.tps.specs.declared.word.Unpacked.{Unpacked}
+use Rattle.tps.specs.Packing.{Unpacked}
 use Rattle.tps.specs.Word.{SYMBOLS}
 use Rattle.session.specs.declared.Session.{Session}
 use Rattle.session.specs.Session.{standing, frame_of, next_phase, feed_no, open_of, step_back_no_of, step_back_no, back_to, back_of, Words}

@@ -1,18 +1,16 @@
 -- Document 01, demand 3, with document 02's E8: what its theorems claim of a feed, of a step back and of a call for the
 -- word where some symbols stand, where orion-sdr's two types are `decoder_after`, reset at each frame, and
 -- `extractor_after` (History). All but a refused call's state is said of what is compared.
-use Rattle.std.specs.Prelude.{◌≡◌, ◌⊎◌, ◌↔◌, List, [], ◌∷◌, ℕ, suc, ◌<◌, ◌≤◌, Float, length, drop}
-use Rattle.ground.specs.Refusal.{ACCEPTED, NO_WORD, INCOMPLETE}
+use Rattle.std.specs.Prelude.{◌≡◌, ◌⊎◌, ◌↔◌, List, [], ◌∷◌, ℕ, suc, ◌<◌, ◌≤◌, Float, length, drop, Err}
+use Rattle.ground.specs.declared.Refusal.TheVariants.{NoWord, Incomplete}
+use Rattle.ground.specs.Refusal.{ACCEPTED}
 use Rattle.carriers.specs.Mode.{Mode, symbol_size, data_size}
 use Rattle.bch.specs.Code.{Codeword, distance, Lone}
 use Rattle.grid.specs.Calls.{extract_leaves, phase_of}
-use Rattle.tps.specs.declared.word.Unpacked.{Unpacked}
-use Rattle.tps.specs.declared.word.Unpacked.TheVariants as unpacked
-use Rattle.tps.specs.Packing.{Received}
+use Rattle.tps.specs.Packing.{Unpacked, Received}
 use Rattle.tps.specs.Receive.{bit_number, feed_answer}
 use Rattle.session.specs.declared.Session.{Session}
-use Rattle.session.specs.declared.Fed.{Fed}
-use Rattle.session.specs.declared.SteppedBack.{SteppedBack}
+use Rattle.session.specs.declared.Called.{Called}
 use Rattle.tps.specs.Word.{SYMBOLS}
 use Rattle.session.specs.Journal.{tps_cells, journal_size, in_place}
 use Rattle.session.specs.Session.{FRAMES, step_number}
@@ -60,7 +58,7 @@ pub record Steps (m : Mode) (journal : ℕ) (st : Standing) : Type 0 where
 -- a feed of the symbol y to the session s with st standing, where the data d and the journal p are lent. Accepted, it
 -- answers what the TPS decoder does, which a frame's beginning resets, leaves the data cells of the extractor after all
 -- that stand, whatever output x that one wrote to, and the symbol stands; refused, it changes nothing
-pub record FeedRight (m : Mode) (st : Standing) (s : Session) (y d p : List Float) (r : Fed) (d' p' : List Float)
+pub record FeedRight (m : Mode) (st : Standing) (s : Session) (y d p : List Float) (r : Called ℕ) (d' p' : List Float)
     : Type 0 where
   pub number : bit_number r.answer ≡ feed_no_after m (length y) (length d) (length p) st
   pub answer : bit_number r.answer ≡ ACCEPTED
@@ -74,7 +72,7 @@ pub record FeedRight (m : Mode) (st : Standing) (s : Session) (y d p : List Floa
 
 -- a step back of the session s with st standing, where the journal p is lent: done, the latest symbol no longer
 -- stands; refused, it changes nothing
-pub record BackRight (m : Mode) (st : Standing) (s : Session) (p : List Float) (r : SteppedBack) : Type 0 where
+pub record BackRight (m : Mode) (st : Standing) (s : Session) (p : List Float) (r : Called (Unit {0})) : Type 0 where
   pub number : step_number r.answer ≡ step_back_no_after m (length p) st
   pub stands : step_number r.answer ≡ ACCEPTED → shown m r.session p ≡ shown_of m (one_fewer st).symbols
   pub refused : (step_number r.answer ≡ ACCEPTED → ⊥) → r.session ≡ s
@@ -87,9 +85,9 @@ received m ys = drop 1 (decoder_after m ys).bits
 -- codeword within two of the bits s1..s67 tells (a word and the places at which they differ, or that a code is
 -- reserved), of which there is at most one, and NO WORD exactly when there is none
 pub record WordRight (m : Mode) (st : Standing) (r : Unpacked) : Type 0 where
-  pub incomplete : (r ≡ unpacked.Refused INCOMPLETE) ↔ (many st < SYMBOLS)
+  pub incomplete : (r ≡ Err Incomplete) ↔ (many st < SYMBOLS)
   pub full : many st ≡ SYMBOLS
-      → Received (received m st.symbols) r ⊎ (Lone (received m st.symbols) × (r ≡ unpacked.Refused NO_WORD))
+      → Received (received m st.symbols) r ⊎ (Lone (received m st.symbols) × (r ≡ Err NoWord))
   pub one : many st ≡ SYMBOLS → (b c : List ℕ) → Codeword b → Codeword c → distance b (received m st.symbols) ≤ 2
       → distance c (received m st.symbols) ≤ 2 → b ≡ c
-  pub none : (r ≡ unpacked.Refused NO_WORD) ↔ ((many st ≡ SYMBOLS) × Lone (received m st.symbols))
+  pub none : (r ≡ Err NoWord) ↔ ((many st ≡ SYMBOLS) × Lone (received m st.symbols))

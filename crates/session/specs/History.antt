@@ -1,7 +1,8 @@
 -- Document 01, demand 3, with document 02's E8: what any run of feeds, step backs and resets leaves, refused ones among
 -- them, said over the promises alone. Lists of operations and of symbols are newest first.
 use Rattle.std.specs.Prelude.{◌≡◌, Bool, cond, List, [], ◌∷◌, ◌++◌, map, ℕ, suc, ◌*◌, ◌%◌, min, max, ltb, leb}
-use Rattle.std.specs.Prelude.{Float, length, take, drop}
+use Rattle.std.specs.Prelude.{Float, length, take, drop, Option}
+use Rattle.ground.specs.declared.Refusal.{Refusal}
 use Rattle.ground.specs.Answer.{kept}
 use Rattle.ground.specs.declared.Cell.{Cell}
 use Rattle.carriers.specs.Mode.{Mode}
@@ -10,8 +11,7 @@ use Rattle.grid.specs.Calls.{extract_answer, extract_state_of}
 use Rattle.tps.specs.declared.receiver.TpsDecoder.{TpsDecoder}
 use Rattle.tps.specs.Word.{SYMBOLS}
 use Rattle.session.specs.declared.Session.{Session}
-use Rattle.session.specs.declared.Fed.{Fed}
-use Rattle.session.specs.declared.SteppedBack.{SteppedBack}
+use Rattle.session.specs.declared.Called.{Called}
 use Rattle.session.specs.Journal.{tps_cells, place, frame_in, decoder_on}
 use Rattle.session.specs.Session.{fresh, feed_no_of, Feeds, next_phase, step_back_no_of, step_back_answer}
 
@@ -30,7 +30,7 @@ pub record FeedCall (m : Mode) (symbol : List Float) (room lent : ℕ) (s : Sess
     (j' : List Float) : Type 0 where
   pub given : List Float
   pub given_length : length given ≡ room
-  pub answer : Fed
+  pub answer : Called ℕ
   pub out : List Float
   pub part : List Float
   pub promise : Feeds m s symbol given (take lent j) answer out part
@@ -38,7 +38,7 @@ pub record FeedCall (m : Mode) (symbol : List Float) (room lent : ℕ) (s : Sess
   pub journal : j' ≡ part ++ drop lent j
 
 pub record BackCall (m : Mode) (lent : ℕ) (s : Session) (j : List Float) (s' : Session) (j' : List Float) : Type 0 where
-  pub answer : SteppedBack
+  pub answer : Called (Unit {0})
   pub promise : answer ≡ step_back_answer m s (take lent j)
   pub session : s' ≡ answer.session
   pub journal : j' ≡ j
@@ -108,11 +108,11 @@ abbrev pub one_fewer : Standing → Standing
 one_fewer st = record { symbols = drop 1 st.symbols; begun = st.begun }
 
 module _ (m : Mode) where
-  -- the numbers of a feed and of a step back where st stands
-  abbrev pub feed_no_after : ℕ → ℕ → ℕ → Standing → ℕ
+  -- the refusals of a feed and of a step back where st stands
+  abbrev pub feed_no_after : ℕ → ℕ → ℕ → Standing → Option Refusal
   feed_no_after symbol out journal st = feed_no_of m symbol out journal (frames_before st) (many st)
 
-  abbrev pub step_back_no_after : ℕ → Standing → ℕ
+  abbrev pub step_back_no_after : ℕ → Standing → Option Refusal
   step_back_no_after journal st = step_back_no_of m journal (frames_before st) (behind_of st) (many st)
 
   -- what stands after an operation, where st stood and the journal has lj f32

@@ -2,22 +2,18 @@
 -- data and the lent journal. With n symbols standing in the current frame the phase is n mod 4. A count above 68 is
 -- treated as 68, a frame count above 1,000,000 as 1,000,000, a held bit above 1 as 1, and bits not standing read 0;
 -- any `behind` but 0 says that a later frame was begun.
-use Rattle.std.specs.Prelude.{◌≡◌, Bool, cond, not, ◌&&◌, List, [], ◌∷◌, ℕ, zero, suc, ◌+◌, ◌-◌, ◌%◌, min}
-use Rattle.std.specs.Prelude.{eqb}
-use Rattle.std.specs.Prelude.{ltb, leb, Float, length}
-use Rattle.ground.specs.Refusal.{ACCEPTED, LENGTH, OUTPUT_SHORT, FULL, EMPTY, ◌gives◌, first_of}
-use Rattle.ground.specs.Answer.{kept}
+use Rattle.std.specs.Prelude.{◌≡◌, Bool, cond, not, ◌&&◌, List, [], ◌∷◌, ℕ, ◌+◌, ◌-◌, ◌%◌, min, eqb, ltb, leb}
+use Rattle.std.specs.Prelude.{Float, length, Option, Some, None, Result, Err}
+use Rattle.ground.specs.declared.Refusal.{Refusal}
+use Rattle.ground.specs.Refusal.{LENGTH, OUTPUT_SHORT, FULL, EMPTY, ◌gives◌, first_of}
+use Rattle.ground.specs.Answer.{number_of, answer_by, kept}
 use Rattle.carriers.specs.Mode.{Mode, symbol_size, data_size}
 use Rattle.grid.specs.Calls.{extract_leaves}
 use Rattle.tps.specs.declared.receiver.TpsDecoder.{TpsDecoder}
-use Rattle.tps.specs.declared.word.Unpacked.{Unpacked}
-use Rattle.tps.specs.declared.receiver.TpsBit.TheVariants as bit
+use Rattle.tps.specs.Packing.{Unpacked}
 use Rattle.tps.specs.Receive as receive
 use Rattle.session.specs.declared.Session.{Session}
-use Rattle.session.specs.declared.Fed.{Fed}
-use Rattle.session.specs.declared.StepBack.{StepBack}
-use Rattle.session.specs.declared.StepBack.TheVariants as step
-use Rattle.session.specs.declared.SteppedBack.{SteppedBack}
+use Rattle.session.specs.declared.Called.{Called}
 use Rattle.tps.specs.Word.{SYMBOLS}
 use Rattle.session.specs.Journal.{tps_cells, journal_size, in_place, frame_in, prev_in, places_in, decoder_on}
 
@@ -50,19 +46,27 @@ start_of m c = session_in c 0 (receive.fresh_decoder m)
 abbrev pub fresh : Mode → Session
 fresh m = start_of m 0
 
+-- ---- a call by its refusal
+
+-- one that is refused leaves the session as it is
+abbrev pub refused : {A : Type 0} → Refusal → Session → Called A
+refused refusal s = record { answer = Err refusal; session = s }
+
+-- what a call of the session s answers, with the session after it: where it isn't refused what is done
+abbrev pub called : {A : Type 0} → Option Refusal → Called A → Session → Called A
+called None done s = done
+called (Some refusal) done s = refused refusal s
+
 -- ---- a feed
 
 -- all of the last frame stands
 abbrev pub full : ℕ → ℕ → Bool
 full frames n = leb FRAMES frames && leb SYMBOLS n
 
-abbrev pub fed_refused : ℕ → Session → Fed
-fed_refused number s = record { answer = bit.Refused number; session = s }
-
 module _ (m : Mode) where
-  -- its number, by the lengths of the symbol, the lent data and the lent journal, the frame count, and how many symbols
-  -- stand in the frame
-  unfoldable pub feed_no_of : ℕ → ℕ → ℕ → ℕ → ℕ → ℕ
+  -- its refusal, by the lengths of the symbol, the lent data and the lent journal, the frame count, and how many
+  -- symbols stand in the frame
+  unfoldable pub feed_no_of : ℕ → ℕ → ℕ → ℕ → ℕ → Option Refusal
   feed_no_of symbol out journal frames n =
       first_of
       (ltb symbol (symbol_size m) gives LENGTH
@@ -71,7 +75,7 @@ module _ (m : Mode) where
       ∷ full frames n gives FULL
       ∷ [])
 
-  abbrev pub feed_no : Session → List Float → List Float → List Float → ℕ
+  abbrev pub feed_no : Session → List Float → List Float → List Float → Option Refusal
   feed_no s symbol out journal = feed_no_of (length symbol) (length out) (length journal) (frame_of s) (standing s)
 
   -- where the symbol goes: with 68 standing to the start of the next frame, else to the session itself
@@ -79,7 +83,7 @@ module _ (m : Mode) where
   open_of s = cond (leb SYMBOLS s.count) (start_of m (frame_of s + 1)) (session_in (frame_of s) s.behind (decoder_of s))
 
   -- what the TPS decoder answers there to the symbol's TPS cells, with the session after it
-  unfoldable pub fed_by : Session → List Float → Fed
+  unfoldable pub fed_by : Session → List Float → Called ℕ
   fed_by s cells =
       record {
         answer = (receive.feed_answer m (decoder_of s) cells).answer;
@@ -88,10 +92,9 @@ module _ (m : Mode) where
 
   -- what a feed answers and leaves: the data cells are the extractor's, and the TPS cells stand in the symbol's place
   -- of the journal
-  abbrev pub feed_answer : Session → List Float → List Float → List Float → Fed
+  abbrev pub feed_answer : Session → List Float → List Float → List Float → Called ℕ
   feed_answer s symbol out journal =
-      kept (feed_no s symbol out journal)
-      (fed_by (open_of s) (tps_cells m symbol)) (fed_refused (feed_no s symbol out journal) s)
+      called (feed_no s symbol out journal) (fed_by (open_of s) (tps_cells m symbol)) s
 
   abbrev pub feed_data_leaves : Session → List Float → List Float → List Float → List Float
   feed_data_leaves s symbol out journal =
@@ -103,7 +106,7 @@ module _ (m : Mode) where
       (in_place m (open_of s).frames (open_of s).count (tps_cells m symbol) journal) journal
 
 -- the promise of a feed
-pub record Feeds (m : Mode) (s : Session) (symbol out journal : List Float) (r : Fed) (out' journal' : List Float)
+pub record Feeds (m : Mode) (s : Session) (symbol out journal : List Float) (r : Called ℕ) (out' journal' : List Float)
     : Type 0 where
   pub result : r ≡ feed_answer m s symbol out journal
   pub data_cells : out' ≡ feed_data_leaves m s symbol out journal
@@ -111,17 +114,12 @@ pub record Feeds (m : Mode) (s : Session) (symbol out journal : List Float) (r :
 
 -- ---- a step back
 
--- document 01's number, for each case of its answer, and the answer of one whose number is no
-abbrev pub step_number : StepBack → ℕ
-step_number step.Done = ACCEPTED
-step_number (step.Refused k) = k
+-- the refusal that its answer says, if any, and the answer of one by its refusal
+abbrev pub step_number : Result (Unit {0}) Refusal → Option Refusal
+step_number answer = number_of answer
 
-abbrev pub step_by : ℕ → StepBack
-step_by zero = step.Done
-step_by (suc k) = step.Refused (suc k)
-
-abbrev pub stepped_refused : ℕ → Session → SteppedBack
-stepped_refused number s = record { answer = step.Refused number; session = s }
+abbrev pub step_by : Option Refusal → Result (Unit {0}) Refusal
+step_by refusal = answer_by refusal tt
 
 -- the latest symbol is the first of a later frame, so that taking it back leads to the frame before
 abbrev pub crosses : ℕ → ℕ → Bool
@@ -132,9 +130,9 @@ abbrev pub lost : ℕ → ℕ → ℕ → Bool
 lost frames behind n = crosses frames n && not (eqb behind 0)
 
 module _ (m : Mode) where
-  -- its number, by the length of the lent journal, the frame count, whether a later frame was begun, and how many
+  -- its refusal, by the length of the lent journal, the frame count, whether a later frame was begun, and how many
   -- symbols stand in the frame
-  unfoldable pub step_back_no_of : ℕ → ℕ → ℕ → ℕ → ℕ
+  unfoldable pub step_back_no_of : ℕ → ℕ → ℕ → ℕ → Option Refusal
   step_back_no_of journal frames behind n =
       first_of
       (ltb journal (journal_size m) gives OUTPUT_SHORT
@@ -142,7 +140,7 @@ module _ (m : Mode) where
       ∷ lost frames behind n gives EMPTY
       ∷ [])
 
-  abbrev pub step_back_no : Session → List Float → ℕ
+  abbrev pub step_back_no : Session → List Float → Option Refusal
   step_back_no s journal = step_back_no_of (length journal) (frame_of s) s.behind (standing s)
 
   -- within its frame: the session with n standing, of one with more
@@ -165,7 +163,7 @@ module _ (m : Mode) where
       cond (crosses (frame_of s) (standing s)) (back_over (frame_of s - 1) journal) (back_to (standing s - 1) s journal)
 
   -- what a step back answers, with the session after it; it writes nothing
-  abbrev pub step_back_answer : Session → List Float → SteppedBack
+  abbrev pub step_back_answer : Session → List Float → Called (Unit {0})
   step_back_answer s journal =
       record {
         answer = step_by (step_back_no s journal);

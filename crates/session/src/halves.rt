@@ -1,9 +1,12 @@
 // The journal's two halves: frame c stands in half c mod 2, with a place for the TPS cells of each symbol.
+// That a journal is long enough stays a clause of the four functions that go into one: as an array that is lent in the
+// slice's front it took lemmas on what stands behind and five answers more, and no function got shorter. A place's frame
+// and number go as two parameters: a type of both would be made for one call each.
 ghost use Rattle.std.specs.Prelude.{◌≡◌, ◌≤◌, ◌<◌, ◌*◌, min, length};
 ghost use Rattle.carriers.specs.Mode.{mode2k, symbol_size};
 ghost use Rattle.tps.specs.Word.{SYMBOLS};
 ghost use Rattle.session.specs.Journal.{tps_cells, place, journal_size, place_of, in_place, prev_in, places_in};
-ghost use Rattle.session.specs.Journal.{decoder_on};
+ghost use Rattle.session.specs.Journal.{decoder_on, frame_in};
 ghost use Rattle.session.specs.Session.{FRAMES};
 
 use super::LAST_FRAME;
@@ -15,11 +18,7 @@ use tps::{TPS_SYMBOLS_PER_FRAME, TpsDecoder};
 pub(crate) fn frame_count(frames: usize) -> usize
     ensures { result ≡ min FRAMES frames }
 {
-    if frames < LAST_FRAME {
-        frames
-    } else {
-        LAST_FRAME
-    }
+    frames.min(LAST_FRAME)
 }
 
 // The TPS cells of a symbol, in rising active order, re and im in turn.
@@ -42,12 +41,21 @@ pub(crate) fn place_of(frame: usize, n: usize) -> usize
 }
 
 // A symbol's TPS cells into the place of symbol n of a frame.
-pub(crate) fn put_cells(cells: [f32; TPS_FLOATS], frame: usize, n: usize, journal: &mut [f32])
+#[tactic(auto, unfolding(crate::specs::Journal::in_place))]
+pub(crate) fn put_cells(cells: &[f32; TPS_FLOATS], frame: usize, n: usize, journal: &mut [f32])
     requires { (n < SYMBOLS) × (journal_size mode2k ≤ length journal.old) }
-    ensures { journal.new ≡ in_place mode2k frame n cells journal.old }
+    ensures { journal.new ≡ in_place mode2k frame n cells.now journal.old }
 {
     let from = place_of(frame, n);
-    ground::inner::copy_cells(&cells, &mut journal[from..from + TPS_FLOATS]);
+    journal[from..from + TPS_FLOATS].copy_from_slice(cells);
+}
+
+// A journal from the first place of a frame on.
+pub(crate) fn frame_in(frame: usize, journal: &[f32]) -> &[f32]
+    requires { journal_size mode2k ≤ length journal.now }
+    ensures { result.now ≡ frame_in mode2k frame journal.now }
+{
+    &journal[place_of(frame, 0)..]
 }
 
 // The previous cells with n symbols standing, out of the frame's part of the journal.
@@ -68,13 +76,8 @@ pub(crate) fn replay(frame: &[f32]) -> TpsDecoder
     ensures { result ≡ decoder_on mode2k (places_in mode2k SYMBOLS frame.now) }
 {
     let mut decoder = TpsDecoder::new();
-    let mut i = 0;
-    while i < TPS_SYMBOLS_PER_FRAME {
-        let from = i * TPS_FLOATS;
-        let fed = decoder.feed_symbol(&frame[from..from + TPS_FLOATS]);
-        let next = fed.decoder;
-        decoder = next;
-        i += 1;
+    for cells in frame.chunks_exact(TPS_FLOATS).take(TPS_SYMBOLS_PER_FRAME) {
+        decoder = decoder.feed_symbol(cells).decoder;
     }
     decoder
 }

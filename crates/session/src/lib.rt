@@ -1,20 +1,20 @@
 // The receive session: the extractor and the TPS decoder joined, with a journal of two frames that steps back.
+// C reads and writes a `Session`, so it keeps what stands there as C has it: a byte that says whether, and bits beside
+// their count.
 #![tactic(auto)]
 
 ghost use Rattle.std.specs.Prelude.{◌≡◌, ◌-◌, ◌≤◌, ◌<◌, length};
 ghost use Rattle.carriers.specs.Mode.{mode2k};
-ghost use Rattle.grid.specs.Calls.{phase_of, extract_leaves};
 ghost use Rattle.tps.specs.Word.{SYMBOLS};
 ghost use Rattle.session.specs.Journal.{journal_size};
 ghost use Rattle.session.specs.Session.{standing, frame_of, next_phase, decoder_of, session_in, start_of};
-ghost use Rattle.session.specs.Session.{fresh, full, fed_by, fed_refused, Feeds};
-ghost use Rattle.session.specs.Session.{crosses, back_to, back_over, stepped_refused, step_back_answer, Words};
-ghost use Rattle.session.specs.Inner.{Opened};
+ghost use Rattle.session.specs.Session.{refused, fresh, full, open_of, fed_by, Feeds};
+ghost use Rattle.session.specs.Session.{crosses, back_to, back_over, step_back_answer, Words};
 
 use carriers::{DATA_FLOATS, SYMBOL_FLOATS, TPS_CARRIER_COUNT, TPS_FLOATS};
 use grid::ScatteredPilotExtractor;
-use ground::Cell;
-use tps::{TPS_SYMBOLS_PER_FRAME, TpsBit, TpsDecoder, Unpacked};
+use ground::{Cell, Refusal};
+use tps::{MendedWord, TPS_SYMBOLS_PER_FRAME, TpsDecoder};
 
 mod halves;
 
@@ -37,33 +37,32 @@ pub struct Session {
     pub behind: u8,
 }
 
+// What a call answers, and the session after it.
+#[derive(Clone, Copy)]
+pub struct Called<T> {
+    pub answer: Result<T, Refusal>,
+    pub session: Session,
+}
+
 // The TPS bit of a symbol, or the refusal, and the session after the call.
-#[derive(Clone, Copy)]
-pub struct Fed {
-    pub answer: TpsBit,
-    pub session: Session,
-}
+pub type Fed = Called<u8>;
 
-// A step back was done, or the refusal's number.
-#[derive(Clone, Copy)]
-pub enum StepBack {
-    Done,
-    Refused(u8),
-}
+// Whether a step back was done, and the session after it.
+pub type SteppedBack = Called<()>;
 
-// What a step back answers, and the session after the call.
-#[derive(Clone, Copy)]
-pub struct SteppedBack {
-    pub answer: StepBack,
-    pub session: Session,
-}
+// The session as a TPS decoder.
+impl From<Session> for TpsDecoder {
+    ghost from_gives = { λ session decoder. decoder ≡ decoder_of session };
 
-// The data cells of the symbol that is fed with n standing, as the extractor reads them.
-fn extract(n: usize, symbol: &[f32], out: &mut [f32])
-    ensures { out.new ≡ extract_leaves mode2k (phase_of n) symbol.now out.old }
-{
-    let extractor = ScatteredPilotExtractor { phase: n };
-    extractor.extract_symbol(symbol, out);
+    fn from(session: Session) -> TpsDecoder {
+        let Session {
+            prev,
+            bits,
+            count,
+            ..
+        } = session;
+        TpsDecoder { prev, bits, count }
+    }
 }
 
 impl Session {
@@ -85,35 +84,20 @@ impl Session {
     fn start(frame: usize) -> Self
         ensures { result ≡ start_of mode2k frame }
     {
-        let decoder = TpsDecoder::new();
-        Session::from_decoder(frame, 0, decoder)
+        Session::from_decoder(frame, 0, TpsDecoder::new())
     }
 
-    // A TPS decoder as a session in a frame.
+    // A TPS decoder as a session in a frame, and no `From`, since a decoder doesn't say which frame.
     fn from_decoder(frames: usize, behind: u8, decoder: TpsDecoder) -> Self
         ensures { result ≡ session_in frames behind decoder }
     {
-        let prev = decoder.prev;
-        let bits = decoder.bits;
+        let TpsDecoder { prev, bits, count } = decoder;
         Session {
             prev,
             bits,
-            count: decoder.count,
+            count,
             frames,
             behind,
-        }
-    }
-
-    // The session as a TPS decoder.
-    fn decoder(self) -> TpsDecoder
-        ensures { result ≡ decoder_of self }
-    {
-        let prev = self.prev;
-        let bits = self.bits;
-        TpsDecoder {
-            prev,
-            bits,
-            count: self.count,
         }
     }
 
@@ -125,34 +109,36 @@ impl Session {
     }
 
     // Where the next symbol goes: the start of the next frame where 68 stand, else the session itself.
+    #[tactic(auto, unfolding(crate::specs::Session::open_of))]
     fn opened(self) -> Self
-        ensures { Opened mode2k self result }
+        ensures session { result ≡ open_of mode2k self }
+        ensures room { result.count < SYMBOLS }
     {
         let frames = halves::frame_count(self.frames);
         if TPS_SYMBOLS_PER_FRAME <= self.count {
             return Session::start(frames + 1);
         }
-        let decoder = self.decoder();
-        Session::from_decoder(frames, self.behind, decoder)
+        Session { frames, ..self }
     }
 
     // The answer to a symbol's TPS cells, with the session after it.
-    fn take_bit(self, cells: [f32; TPS_FLOATS]) -> Fed
-        ensures { result ≡ fed_by mode2k self cells }
+    #[tactic(auto, unfolding(crate::specs::Session::fed_by))]
+    fn take_bit(self, cells: &[f32]) -> Fed
+        ensures { result ≡ fed_by mode2k self cells.now }
     {
-        let fed = self.decoder().feed_symbol(&cells);
-        let answer = fed.answer;
-        let decoder = fed.decoder;
-        let session = Session::from_decoder(self.frames, self.behind, decoder);
-        Fed { answer, session }
+        let fed = TpsDecoder::from(self).feed_symbol(cells);
+        Fed {
+            answer: fed.answer,
+            session: Session::from_decoder(self.frames, self.behind, fed.decoder),
+        }
     }
 
-    // The refusal of a feed.
-    fn refused(self, number: u8) -> Fed
-        ensures { result ≡ fed_refused number self }
+    // The refusal of a call, which leaves the session as it is.
+    fn refused<T>(self, refusal: Refusal) -> Called<T>
+        ensures { result ≡ refused refusal self }
     {
-        Fed {
-            answer: TpsBit::Refused(number),
+        Called {
+            answer: Err(refusal),
             session: self,
         }
     }
@@ -161,137 +147,96 @@ impl Session {
     fn is_full(self) -> bool
         ensures { result ≡ full (frame_of self) (standing self) }
     {
-        if self.frames < LAST_FRAME {
-            return false;
-        }
-        TPS_SYMBOLS_PER_FRAME <= self.count
+        LAST_FRAME <= self.frames && TPS_SYMBOLS_PER_FRAME <= self.count
     }
 
     // One symbol of 2,048 cells: its data cells to the lent output, its TPS cells to the journal, and its TPS bit.
+    #[tactic(auto, unfolding(crate::specs::Session::feed_no_of))]
     pub fn feed(self, symbol: &[f32], out: &mut [f32], journal: &mut [f32]) -> Fed
         ensures { Feeds mode2k self symbol.now out.old journal.old result
             out.new journal.new }
     {
         if symbol.len() < SYMBOL_FLOATS {
-            return self.refused(ground::LENGTH);
+            return self.refused(Refusal::Length);
         }
-        if out.len() < DATA_FLOATS {
-            return self.refused(ground::OUTPUT_SHORT);
-        }
-        if journal.len() < JOURNAL_FLOATS {
-            return self.refused(ground::OUTPUT_SHORT);
+        if out.len() < DATA_FLOATS || journal.len() < JOURNAL_FLOATS {
+            return self.refused(Refusal::OutputShort);
         }
         if self.is_full() {
-            return self.refused(ground::FULL);
+            return self.refused(Refusal::Full);
         }
         let session = self.opened();
         let n = session.count;
-        extract(n, symbol, out);
+        // The lengths suffice, so the extractor refuses nothing.
+        let _ = ScatteredPilotExtractor { phase: n }.extract_symbol(symbol, out);
         let cells = halves::tps_cells(symbol);
-        halves::put_cells(cells, session.frames, n, journal);
-        session.take_bit(cells)
+        halves::put_cells(&cells, session.frames, n, journal);
+        session.take_bit(&cells)
     }
 
     // Whether the latest symbol is the first of a later frame, so that taking it back leads to the frame before.
     fn crosses(self) -> bool
         ensures { result ≡ crosses (frame_of self) (standing self) }
     {
-        if self.count == 1 {
-            return 1 <= self.frames;
-        }
-        false
+        self.count == 1 && 1 <= self.frames
     }
 
     // The session with n standing in its frame, of one with more.
+    #[tactic(auto, unfolding(crate::specs::Session::back_to))]
     fn back_to(self, n: usize, journal: &[f32]) -> Self
         requires { (n < SYMBOLS) × (journal_size mode2k ≤ length journal.now) }
         ensures { result ≡ back_to mode2k n self journal.now }
     {
         let frames = halves::frame_count(self.frames);
-        let held = self.bits;
-        let bits = tps::inner::held_bits(held, n);
-        let from = halves::place_of(frames, 0);
-        let prev = halves::cells_before(n, &journal[from..]);
         Session {
-            prev,
-            bits,
+            prev: halves::cells_before(n, halves::frame_in(frames, journal)),
+            bits: tps::inner::held_bits(self.bits, n),
             count: n,
             frames,
-            behind: self.behind,
-        }
-    }
-
-    // The session in the frame before, as a TPS decoder has that.
-    fn frame_before(self, before: TpsDecoder) -> Self
-        requires { 1 ≤ self.frames }
-        ensures { result ≡ session_in (frame_of self - 1) 1 before }
-    {
-        let frames = halves::frame_count(self.frames);
-        let prev = before.prev;
-        let bits = before.bits;
-        Session {
-            prev,
-            bits,
-            count: before.count,
-            frames: frames - 1,
-            behind: 1,
+            ..self
         }
     }
 
     // The session with all of the frame before standing, out of the journal.
+    #[tactic(auto, unfolding(crate::specs::Session::back_over))]
     fn back_over(self, journal: &[f32]) -> Self
         requires { (1 ≤ self.frames) × (journal_size mode2k ≤ length journal.now) }
         ensures { result ≡ back_over mode2k (frame_of self - 1) journal.now }
     {
-        let frames = halves::frame_count(self.frames);
-        let from = halves::place_of(frames - 1, 0);
-        let decoder = halves::replay(&journal[from..]);
-        self.frame_before(decoder)
-    }
-
-    // The refusal of a step back.
-    fn stays(self, number: u8) -> SteppedBack
-        ensures { result ≡ stepped_refused number self }
-    {
-        SteppedBack {
-            answer: StepBack::Refused(number),
-            session: self,
-        }
+        let before = halves::frame_count(self.frames) - 1;
+        let decoder = halves::replay(halves::frame_in(before, journal));
+        Session::from_decoder(before, 1, decoder)
     }
 
     // The latest standing symbol is taken back: the session with the one before it as the latest, in the frame before
     // where it was the first of a later one.
+    #[tactic(auto, unfolding(crate::specs::Session::step_back_no_of, crate::specs::Session::back_of))]
     pub fn step_back(self, journal: &[f32]) -> SteppedBack
         ensures { result ≡ step_back_answer mode2k self journal.now }
     {
         if journal.len() < JOURNAL_FLOATS {
-            return self.stays(ground::OUTPUT_SHORT);
+            return self.refused(Refusal::OutputShort);
         }
         let count = tps::inner::standing_count(self.count);
-        if count == 0 {
-            return self.stays(ground::EMPTY);
+        let crosses = self.crosses();
+        if count == 0 || (crosses && self.behind != 0) {
+            return self.refused(Refusal::Empty);
         }
-        if self.crosses() {
-            if self.behind != 0 {
-                return self.stays(ground::EMPTY);
-            }
-            let session = self.back_over(journal);
-            return SteppedBack {
-                answer: StepBack::Done,
-                session,
-            };
-        }
-        let session = self.back_to(count - 1, journal);
+        let session = if crosses {
+            self.back_over(journal)
+        } else {
+            self.back_to(count - 1, journal)
+        };
         SteppedBack {
-            answer: StepBack::Done,
+            answer: Ok(()),
             session,
         }
     }
 
     // The word of the current frame's 68 symbols.
-    pub fn word(self) -> Unpacked
+    pub fn word(self) -> Result<MendedWord, Refusal>
         ensures { Words self result }
     {
-        self.decoder().word()
+        TpsDecoder::from(self).word()
     }
 }

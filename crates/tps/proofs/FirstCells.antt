@@ -1,14 +1,13 @@
 -- The first cells of a slice: what stands at each place, cells in a row read back, and the floats that they are.
 -- Assumes nothing.
 use mathlib.Core.Path.{◌≡◌, refl, sym, ap, ◌∙◌}
-use mathlib.Core.List.{List, [], ◌∷◌, ◌++◌}
+use mathlib.Core.List.{List, [], ◌∷◌, ◌++◌, append-nil}
 use Prim.Native.Nat.{ℕ, zero, suc, ◌+◌, ◌*◌, ◌<◌, ◌≤◌}
 use native.Mathlib.Nat.{not-suc-le-zero, le_of_suc-le-suc}
 use native.Mathlib.Omega.{arith}
 use lib.Ieee.{Float, nan}
 use lib.ListN.{length, get_or, take, drop}
 use lib.Seq.{get_or-drop, take_all}
-use Rattle.ground.specs.Answer.{written}
 use Rattle.ground.specs.declared.Cell.{Cell}
 use Rattle.ground.specs.Cells.{cell_at, flat}
 use Rattle.ground.proofs.Cells.{cell_of_lem}
@@ -39,12 +38,13 @@ unfolding first_cells flat
 cells-back [] q = refl
 cells-back (c ∷ l) q = ap (λ (r : List Cell). c ∷ r) (cells-back l q)
 
-pub cells-written : (n : ℕ) (s o p : List Float) → p ≡ written (flat (first_cells n s)) o → first_cells n p ≡ first_cells n s
-cells-written n s o p e =
+-- and so are those of floats that are the cells'
+pub cells-front : (n : ℕ) (s p : List Float) → p ≡ flat (first_cells n s) → first_cells n p ≡ first_cells n s
+cells-front n s p e =
     let m = first_cells n s in
-    ap (first_cells n) e
-    ∙ ap (λ (k : ℕ). first_cells k (written (flat m) o)) (sym (cells-length n s))
-    ∙ cells-back m (drop (length (flat m)) o)
+    ap (first_cells n) (e ∙ sym (append-nil (flat m)))
+    ∙ ap (λ (k : ℕ). first_cells k (flat m ++ [])) (sym (cells-length n s))
+    ∙ cells-back m []
 
 -- the floats of the first n cells are the first 2 n
 pub cells-taken : (n : ℕ) (s : List Float) → 2 * n ≤ length s → flat (first_cells n s) ≡ take (2 * n) s

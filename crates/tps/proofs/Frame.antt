@@ -17,10 +17,8 @@ use Rattle.carriers.specs.Mode.{Mode, tps_size}
 use Rattle.tps.specs.declared.sender.TpsEncoder.{TpsEncoder}
 use Rattle.tps.specs.declared.receiver.TpsDecoder.{TpsDecoder}
 use Rattle.tps.specs.declared.word.TpsWord.{TpsWord}
-use Rattle.tps.specs.declared.word.Unpacked.{Unpacked}
-use Rattle.tps.specs.declared.word.Unpacked.TheVariants.{Word}
 use Rattle.tps.specs.Word.{SYMBOLS, information_of, word_bits, modulo4}
-use Rattle.tps.specs.Packing.{Unpacks}
+use Rattle.tps.specs.Packing.{Unpacked, mended_word, Unpacks}
 use Rattle.tps.specs.Send.{fresh_encoder, send_answer, send_leaves}
 use Rattle.tps.specs.Receive.{fresh_decoder, feed_answer, Words}
 use Rattle.tps.specs.Frame.{Symbol, Frame, read_bits}
@@ -44,7 +42,7 @@ few = omega arith
 
 -- a word whose bits were sent and fed comes back from the receiver, its frame number modulo 4, and no bit is mended
 pub word_read : (m : Mode) → TpsFacts m → (w : TpsWord) (bs : List ℕ) (e : TpsEncoder) (d : TpsDecoder) (r : Unpacked) → w.cell_id < 256
-    → Frame m bs e d → length bs ≡ SYMBOLS → read_bits bs ≡ word_bits w → Words d r → r ≡ Word (modulo4 w) (mended_at [])
+    → Frame m bs e d → length bs ≡ SYMBOLS → read_bits bs ≡ word_bits w → Words d r → r ≡ mended_word (modulo4 w) (mended_at [])
 word_read m facts w bs e d r h f l s k =
     let t = frame-read m facts bs e d f l in
     let b : Bits (word_bits w) = word-bits w in
@@ -52,7 +50,7 @@ word_read m facts w bs e d r h f l s k =
     let z = places_self 0 (drop 1 (word_bits w)) in
     let u : Unpacks (map (min 1) d.bits) r = word_unpacked d t.0 r k in
     unpack_packed w h (word_bits w) b (word-length w) r (subst (λ (ps : List ℕ). length ps ≤ 2) (sym z) few) (subst (λ (x : List ℕ). Unpacks x r) g u)
-    ∙ ap (λ (ps : List ℕ). Word (modulo4 w) (mended_at ps)) z
+    ∙ ap (λ (ps : List ℕ). mended_word (modulo4 w) (mended_at ps)) z
 
 -- ---- frames exist
 

@@ -7,7 +7,7 @@ use native.Mathlib.Omega.{arith}
 use lib.ListN.{length, take, drop, set, length-set, length-drop}
 use lib.Seq.{take_at, drop_at, take_all, length-take-le}
 use borrow.Rule.Slice.PartMut.{put_mid}
-use Rattle.ground.specs.declared.Counted.TheVariants.{Count}
+use Rattle.std.specs.Prelude.{Ok}
 use Rattle.ground.specs.Bits.{Bits}
 use Rattle.ground.specs.Digits.{digits_of, value_of}
 use Rattle.ground.proofs.Answers.{fill_accepted}
@@ -44,9 +44,6 @@ module _ (w : TpsWord) (o : List ℕ) (room : 68 ≤ length o) (v : ℕ) (hv : v
   packed : (v < 2 ^ 53) × (digits_of 53 v ≡ information_of w)
   packed = information_digits (information_of w) v (fields_bits (fields_of (codes_of w))) (information-length w) hv
 
-  pub information-small : v < 2 ^ 53
-  information-small = packed.0
-
   zero_written : set o 0 0 ≡ front (word_bits w) 1 o
   zero_written = front-next (word_bits w) o o 0 0 0 (omega (arith, word-length w)) (omega arith) refl refl
 
@@ -81,10 +78,7 @@ module _ (w : TpsWord) (o : List ℕ) (room : 68 ≤ length o) (v : ℕ) (hv : v
           front-part (word_bits w) o (put_mid 1 53 (set o 0 0) d) q 54 68 14 information-written refl (omega (arith, word-length w))
           (hq ∙ ap₂ digits_of rest-length (hp ∙ ap parity packed.1) ∙ sym parity-place)
 
-      pub all_room : length (put_mid 54 14 (put_mid 1 53 (set o 0 0) d) q) ≡ length o
-      all_room = ap length all-written ∙ front_length (word_bits w) o 68 (omega (arith, word-length w)) (omega arith)
-
-      pub pack_accepted : (Count 68 ≡ pack_answer o) × (put_mid 54 14 (put_mid 1 53 (set o 0 0) d) q ≡ pack_leaves w o)
+      pub pack_accepted : (Ok 68 ≡ pack_answer o) × (put_mid 54 14 (put_mid 1 53 (set o 0 0) d) q ≡ pack_leaves w o)
       pack_accepted =
           let r = fill_accepted 68 (word_bits w) o room in
           (r.0, front-whole (word_bits w) o (put_mid 54 14 (put_mid 1 53 (set o 0 0) d) q) 68 (sym (word-length w)) all-written ∙ r.1)

@@ -1,15 +1,15 @@
 -- The refusals of sending, of receiving and of packing, said without the call: it is refused by a number exactly where
 -- this is so. Assumes nothing.
-use mathlib.Core.Path.{◌≡◌, refl}
+use mathlib.Core.Path.{◌≡◌}
 use mathlib.Core.Logic.{◌↔◌}
 use mathlib.Core.List.{List, [], ◌∷◌}
-use Prim.Native.Nat.{ℕ, zero, suc, ◌<◌, ◌≤◌}
+use Prim.Native.Nat.{ℕ, ◌<◌, ◌≤◌}
 use lib.Dec.{leb}
 use lib.Ieee.{Float}
 use lib.ListN.{length}
 use Rattle.ground.specs.Refusal.{LENGTH, NOT_A_BIT, OUTPUT_SHORT, FULL, Test, ◌gives◌}
 use Rattle.ground.specs.Answer.{number_of, short}
-use Rattle.ground.proofs.Answers.{counted-says-number}
+use Rattle.ground.proofs.Answers.{answer-says-number, counted-says-number}
 use Rattle.ground.proofs.Exactly.{less_decides, at_most_decides, given-here, given-behind, said_exactly, fill_short_exactly}
 use Rattle.carriers.specs.Mode.{Mode, tps_size}
 use Rattle.tps.specs.declared.sender.TpsEncoder.{TpsEncoder}
@@ -17,7 +17,7 @@ use Rattle.tps.specs.declared.receiver.TpsDecoder.{TpsDecoder}
 use Rattle.tps.specs.Word.{SYMBOLS}
 use Rattle.tps.specs.Packing.{pack_no, pack_answer}
 use Rattle.tps.specs.Send.{send_no, send_answer}
-use Rattle.tps.specs.Receive.{bit_number, bit_answer, feed_no, fed_bit, feed_answer, standing, bits_no, bits_answer}
+use Rattle.tps.specs.Receive.{bit_number, feed_no, fed_bit, feed_answer, standing, bits_no, bits_answer}
 
 -- ---- sending
 
@@ -35,21 +35,17 @@ module _ (m : Mode) (e : TpsEncoder) (bit : ℕ) (o : List Float) where
 
 -- ---- receiving
 
-bit-says-number : (no b : ℕ) → bit_number (bit_answer no b) ≡ no
-bit-says-number zero b = refl
-bit-says-number (suc k) b = refl
-
 module _ (m : Mode) (d : TpsDecoder) (s : List Float) where
   abbrev full : List Test
   full = leb SYMBOLS d.count gives FULL ∷ []
 
   pub feeding_length : (bit_number (feed_answer m d s).answer ≡ LENGTH) ↔ (length s < tps_size m)
   feeding_length =
-      said_exactly (bit-says-number (feed_no m d s) (fed_bit m d s)) (given-here LENGTH full (less_decides (length s) (tps_size m)) tt)
+      said_exactly (answer-says-number (feed_no m d s) (fed_bit m d s)) (given-here LENGTH full (less_decides (length s) (tps_size m)) tt)
 
   pub feeding_full : (bit_number (feed_answer m d s).answer ≡ FULL) ↔ ((tps_size m ≤ length s) × (SYMBOLS ≤ d.count))
   feeding_full =
-      said_exactly (bit-says-number (feed_no m d s) (fed_bit m d s))
+      said_exactly (answer-says-number (feed_no m d s) (fed_bit m d s))
       (given-behind LENGTH FULL full (less_decides (length s) (tps_size m)) tt (λ l. given-here FULL [] (at_most_decides SYMBOLS d.count) tt))
 
 pub bits-output-short : (d : TpsDecoder) (o : List ℕ) → (number_of (bits_answer d o) ≡ OUTPUT_SHORT) ↔ (length o < standing d)

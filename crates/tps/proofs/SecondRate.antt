@@ -6,19 +6,18 @@ use Prim.Native.Nat.{ℕ, zero, suc, ◌+◌, ◌-◌, ◌≤◌}
 use native.Mathlib.Omega.{arith}
 use lib.ListN.{take, drop}
 use lib.Seq.{take-take, drop-drop}
+use Rattle.std.specs.Prelude.{Option, Some, Result, Ok, Err}
+use Rattle.ground.specs.declared.Refusal.{Refusal}
+use Rattle.ground.specs.Refusal.{ACCEPTED}
 use Rattle.ground.specs.Digits.{value_of}
 use Rattle.bch.specs.Code.{places, encode}
 use Rattle.bch.specs.Promise.{mended_at}
 use Rattle.bch.specs.declared.Mended.{Mended}
 use Rattle.tps.specs.declared.inner.Codes.{Codes}
-use Rattle.tps.specs.declared.inner.WordRead.{WordRead}
-use Rattle.tps.specs.declared.inner.WordRead.TheVariants.{Known, Reserved}
 use Rattle.tps.specs.declared.word.TpsWord.{TpsWord}
-use Rattle.tps.specs.declared.word.Unpacked.{Unpacked}
-use Rattle.tps.specs.declared.word.Unpacked.TheVariants.{Word, Refused}
 use Rattle.tps.specs.Codes.{word_of}
 use Rattle.tps.specs.Word.{said, codes_in}
-use Rattle.tps.specs.Packing.{unpacked_by, Unpacks}
+use Rattle.tps.specs.Packing.{Unpacked, unpacked_by, Unpacks}
 use Rattle.tps.proofs.SentRead.{Sent, sent-read}
 
 -- ---- what two informations that differ in s33..s35 alone say
@@ -54,14 +53,14 @@ module _ (s t : List ℕ) (e : ButSecondRate s t) where
 
 -- ---- and how codewords with them are read
 
--- document 01's number and the word of an answer, whatever was mended
-abbrev pub word_said : Unpacked → ℕ × List TpsWord
-word_said (Word w m) = (0, w ∷ [])
-word_said (Refused k) = (k, [])
+-- the refusal and the word of an answer, whatever was mended
+abbrev pub word_said : Unpacked → Option Refusal × List TpsWord
+word_said (Ok u) = (ACCEPTED, u.word ∷ [])
+word_said (Err refusal) = (Some refusal, [])
 
-by_codes : (x : WordRead) (m n : Mended) → word_said (unpacked_by x m) ≡ word_said (unpacked_by x n)
-by_codes (Known w) m n = refl
-by_codes Reserved m n = refl
+by_codes : (x : Result TpsWord Refusal) (m n : Mended) → word_said (unpacked_by x m) ≡ word_said (unpacked_by x n)
+by_codes (Ok w) m n = refl
+by_codes (Err k) m n = refl
 
 pub second_rate_ignored : (s t a b : List ℕ) (r q : Unpacked) → ButSecondRate s t → Sent s a → Sent t b → Unpacks a r → Unpacks b q → word_said r ≡ word_said q
 second_rate_ignored s t a b r q e hs ht u w =

@@ -6,16 +6,17 @@ use mathlib.Core.Logic.{inl}
 use Prim.Native.Nat.{ℕ, ◌≤◌}
 use lib.ListN.{length, drop}
 use lib.Seq.{take_at}
+use Rattle.std.specs.Prelude.{Option}
+use Rattle.ground.specs.declared.Refusal.{Refusal}
 use Rattle.ground.specs.Bits.{Bits}
 use Rattle.ground.specs.Digits.{digits_of}
 use Rattle.ground.proofs.Bits.{are-bits}
 use Rattle.bch.specs.Code.{places, distance, parity, encode}
 use Rattle.bch.specs.Promise.{mended_at}
 use Rattle.bch.proofs.Codeword.{encode-codeword}
-use Rattle.tps.specs.declared.word.Unpacked.{Unpacked}
 use Rattle.tps.specs.Codes.{word_of}
 use Rattle.tps.specs.Word.{SYMBOLS, codes_in}
-use Rattle.tps.specs.Packing.{unpacked_by, read_as, UnpacksBy, Unpacks}
+use Rattle.tps.specs.Packing.{Unpacked, unpacked_by, read_as, UnpacksBy, Unpacks}
 use Rattle.tps.proofs.Unpacking.{unpack_accepted}
 use Rattle.tps.proofs.Determined.{unpack_determined}
 
@@ -29,7 +30,7 @@ pub record Sent (s b : List ℕ) : Type 0 where
 pub sent-read : (s b : List ℕ) (r : Unpacked) → Sent s b → Unpacks b r → r ≡ unpacked_by (word_of (codes_in s)) (mended_at (places 0 (encode s) (drop 1 b)))
 sent-read s b r h u =
     unpack_determined b r (read_as (encode s) (drop 1 b)) u
-    (subst (λ (k : ℕ). UnpacksBy k b (read_as (encode s) (drop 1 b)))
+    (subst (λ (k : Option Refusal). UnpacksBy k b (read_as (encode s) (drop 1 b)))
     (sym (unpack_accepted b h.received.1 (are-bits b h.received.0)))
     (inl record {
       word = encode s;

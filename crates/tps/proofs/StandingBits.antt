@@ -7,18 +7,18 @@ use Prim.Native.Nat.{ℕ, suc, ◌+◌, ◌-◌, ◌<◌, ◌≤◌, min, ◌/�
 use native.Mathlib.Numerals.{add-one}
 use native.Mathlib.Omega.{arith}
 use lib.Dec.{ltb}
-use lib.ListN.{length, get_or, take, drop, set, replicate, length-append, length-take, length-map, length-replicate, length-set, get_or-replicate}
-use lib.Seq.{take-suc, take_all, take_at, take-set-le, get_or-set_same, length-take-le, set_at, set-get_or, append_snoc, get_or-append-add}
-use borrow.Author.Tests.{lt-ltb, le-ltb, ltb-true, ltb-false}
-use Rattle.ground.specs.Refusal.{ACCEPTED, OUTPUT_SHORT, INCOMPLETE}
-use Rattle.ground.specs.declared.Counted.TheVariants as counts
+use lib.ListN.{length, get_or, take, drop, set, replicate, length-append, length-take, length-map, length-replicate, length-set, get_or-replicate, get_or-append}
+use Rattle.ground.proofs.Mapped.{map_at}
+use lib.Seq.{get_or-take, take-suc, take_all, take_at, take-set-le, get_or-set_same, length-take-le, set_at, append_snoc, get_or-append-add}
+use borrow.Author.Tests.{le-ltb, ltb-true, ltb-false}
+use Rattle.ground.specs.Refusal.{ACCEPTED}
+use Rattle.std.specs.Prelude.{Option, Ok}
+use Rattle.ground.specs.declared.Refusal.{Refusal}
 use Rattle.ground.specs.Bits.{Bits}
-use Rattle.ground.proofs.Answers.{written-front, fill_refused, fill_accepted}
+use Rattle.ground.proofs.Answers.{written-front, fill_accepted}
 use Rattle.tps.specs.declared.receiver.TpsDecoder.{TpsDecoder}
-use Rattle.tps.specs.declared.word.Unpacked.{Unpacked}
-use Rattle.tps.specs.declared.word.Unpacked.TheVariants.{Refused}
 use Rattle.tps.specs.Word.{SYMBOLS}
-use Rattle.tps.specs.Packing.{Unpacks}
+use Rattle.tps.specs.Packing.{Unpacked, Unpacks}
 use Rattle.tps.specs.Receive.{standing, held_bits, received_bits, bits_answer, bits_leaves, word_no, WordsBy, Words}
 
 -- ---- bits as they are held
@@ -47,19 +47,27 @@ standing-bit-next bits i z h =
     rw (e, add-one i, take-suc bits i 0 l, map-append)
     (set_at first 0 rest (min 1 (get_or bits i 0)) i k ∙ sym (append_snoc first (min 1 (get_or bits i 0)) rest))
 
-module _ (bits : List ℕ) (n i : ℕ) (z : length bits ≡ SYMBOLS) (h : n ≤ i) (k : i < SYMBOLS) where
-  -- behind the bits that stand is 0
-  behind : get_or (held_bits n bits) i 0 ≡ 0
-  unfolding held_bits
-  behind =
-      let l : length (map (min 1) (take n bits)) ≡ n = simp (length-map, length-take) (omega arith) in
-      let e : i ≡ length (map (min 1) (take n bits)) + (i - n) = omega (arith, l) in
-      ap (λ (j : ℕ). get_or (held_bits n bits) j 0) e
-      ∙ get_or-append-add (map (min 1) (take n bits)) (replicate (SYMBOLS - n) 0) (i - n) 0
-      ∙ get_or-replicate (SYMBOLS - n) (i - n) 0 0 (omega arith)
+-- where bit i stands it is held, and else 0
+pub held_at : (bits : List ℕ) (n i : ℕ) → length bits ≡ SYMBOLS → n ≤ SYMBOLS → i < SYMBOLS → cond (ltb i n) (min 1 (get_or bits i 0)) 0 ≡ get_or (held_bits n bits) i 0
+unfolding held_bits
+held_at bits n i z h k = by (ltb i n) refl
+  where
+    first : List ℕ
+    first = map (min 1) (take n bits)
 
-  zero_behind : set (held_bits n bits) i 0 ≡ held_bits n bits
-  zero_behind = ap (set (held_bits n bits) i) (sym behind) ∙ set-get_or (held_bits n bits) i 0
+    long : length first ≡ n
+    long = simp (length-map, length-take) (omega arith)
+
+    by : (t : Bool) → ltb i n ≡ t → cond t (min 1 (get_or bits i 0)) 0 ≡ get_or (held_bits n bits) i 0
+    by true e =
+        let l = ltb-true i n e in
+        sym (get_or-append first (replicate (SYMBOLS - n) 0) 0 i (omega (arith, long)) ∙ map_at (min 1) (take n bits) i 0 0 (omega (arith, length-take n bits))
+        ∙ ap (min 1) (get_or-take n bits i 0 l))
+    by false e =
+        let l = ltb-false i n e in
+        let j : length first + (i - n) ≡ i = omega (arith, long) in
+        sym (sym (ap (λ (k : ℕ). get_or (held_bits n bits) k 0) j) ∙ get_or-append-add first (replicate (SYMBOLS - n) 0) (i - n) 0
+        ∙ get_or-replicate (SYMBOLS - n) (i - n) 0 0 (omega arith))
 
 -- a number without a test: 1 where bit i stands and 0 where it doesn't
 pub stands-number : (n i b : ℕ) → n ≤ SYMBOLS → i < SYMBOLS → 0 < b → (n + 127 - i) / 128 ≡ cond (ltb i n) (min 1 b) 0
@@ -75,23 +83,6 @@ none-stands n i b e = by (ltb i n)
     by : (t : Bool) → 0 ≡ cond t (min 1 b) 0
     by true = omega arith
     by false = refl
-
--- and one place more of all 68: a bit where it stands, else 0
-pub place-next : (bits : List ℕ) (n i : ℕ) → length bits ≡ SYMBOLS → i < SYMBOLS
-    → set (held_bits (min i n) bits) i (cond (ltb i n) (min 1 (get_or bits i 0)) 0) ≡ held_bits (min (i + 1) n) bits
-place-next bits n i z h = by (ltb i n) refl
-  where
-    by : (t : Bool) → ltb i n ≡ t → set (held_bits (min i n) bits) i (cond t (min 1 (get_or bits i 0)) 0) ≡ held_bits (min (i + 1) n) bits
-    by true e =
-        let l = ltb-true i n e in
-        let a : min i n ≡ i = omega arith in
-        let b : min (i + 1) n ≡ i + 1 = omega arith in
-        rw (a, b) (standing-bit-next bits i z h)
-    by false e =
-        let l = ltb-false i n e in
-        let a : min i n ≡ n = omega arith in
-        let b : min (i + 1) n ≡ n = omega arith in
-        rw (a, b) (zero_behind bits n i z l h)
 
 same : (n : ℕ) (a b : List ℕ) → map (min 1) (take n a) ≡ map (min 1) (take n b) → held_bits n a ≡ held_bits n b
 unfolding held_bits
@@ -133,27 +124,21 @@ all_bits_stand bits z = append-nil (map (min 1) (take SYMBOLS bits)) ∙ ap (map
 -- ---- a call for the bits, where n symbols stand
 
 module _ (d : TpsDecoder) (o : List ℕ) (n : ℕ) (e : n ≡ standing d) where
-  pub bits-refused : length o < n → (counts.Refused OUTPUT_SHORT ≡ bits_answer d o) × (o ≡ bits_leaves d o)
-  bits-refused h = fill_refused (standing d) (received_bits d) o (omega arith)
-
   -- the front of the output came back as the first n of the held bits
   pub bits-written : n ≤ length o → (held t : List ℕ) → length held ≡ SYMBOLS → held ≡ map (min 1) d.bits → t ≡ take n held
-      → (counts.Count n ≡ bits_answer d o) × (t ++ drop n o ≡ bits_leaves d o)
+      → (Ok n ≡ bits_answer d o) × (t ++ drop n o ≡ bits_leaves d o)
   bits-written h held t l eh et =
       let r = fill_accepted (standing d) (received_bits d) o (omega arith) in
       let m : length (take n held) ≡ n = length-take-le n held (omega arith) in (
-        ap counts.Count e ∙ r.0,
+        ap Ok e ∙ r.0,
         written-front (received_bits d) o t n (et ∙ ap₂ take e eh) (ap length (sym (ap₂ take e eh)) ∙ m) ∙ r.1,
       )
 
 -- ---- a call for the word
 
 module _ (d : TpsDecoder) where
-  word-by : (n : ℕ) (r : Unpacked) → word_no d ≡ n → WordsBy n d r → Words d r
-  word-by n r e h = subst (λ (k : ℕ). WordsBy k d r) (sym e) h
-
-  pub word-incomplete : d.count < SYMBOLS → Words d (Refused INCOMPLETE)
-  word-incomplete h = word-by INCOMPLETE (Refused INCOMPLETE) (simp (lt-ltb d.count SYMBOLS h) refl) refl
+  word-by : (n : Option Refusal) (r : Unpacked) → word_no d ≡ n → WordsBy n d r → Words d r
+  word-by n r e h = subst (λ (k : Option Refusal). WordsBy k d r) (sym e) h
 
   word-accepted : SYMBOLS ≤ d.count → word_no d ≡ ACCEPTED
   word-accepted h = simp (le-ltb d.count SYMBOLS h) refl
@@ -163,4 +148,4 @@ module _ (d : TpsDecoder) where
 
   -- and the other way round
   pub word_unpacked : d.count ≡ SYMBOLS → (r : Unpacked) → Words d r → Unpacks (map (min 1) d.bits) r
-  word_unpacked e r w = subst (λ (k : ℕ). WordsBy k d r) (word-accepted (omega (arith, e))) w
+  word_unpacked e r w = subst (λ (k : Option Refusal). WordsBy k d r) (word-accepted (omega (arith, e))) w

@@ -7,6 +7,8 @@ use lib.Ieee.{Float}
 use lib.ListN.{length, drop, set, length-append, length-map}
 use borrow.Author.Tests.{eq-eqb, ne_eqb}
 use Rattle.ground.specs.Refusal.{ACCEPTED}
+use Rattle.std.specs.Prelude.{Option, None}
+use Rattle.ground.specs.declared.Refusal.{Refusal}
 use Rattle.ground.specs.Answer.{kept, written}
 use Rattle.ground.specs.declared.Cell.{Cell}
 use Rattle.ground.specs.Cells.{flat}
@@ -38,13 +40,13 @@ module _ (m : Mode) (bit : ℕ) (e e' : TpsEncoder) (d d' : TpsDecoder) (y : Sym
   cells = map sign_cell signs
 
   accepted : send_no m bit y.out ≡ ACCEPTED
-  accepted = send_accepted m e bit y.out (omega (arith, y.is_bit)) y.room
+  accepted = send_accepted m bit y.out (omega (arith, y.is_bit)) y.room
 
   sent-sender : e' ≡ sender signs
-  sent-sender = y.sender ∙ ap (λ (x : Sent). x.encoder) y.sends ∙ ap (λ (n : ℕ). kept n (sender signs) e) accepted
+  sent-sender = y.sender ∙ ap (λ (x : Sent). x.encoder) y.sends ∙ ap (λ (n : Option Refusal). kept n (sender signs) e) accepted
 
   sent-cells : y.left ≡ written (flat cells) y.out
-  sent-cells = y.leaves ∙ ap (λ (n : ℕ). kept n (written (flat cells) y.out) y.out) accepted
+  sent-cells = y.leaves ∙ ap (λ (n : Option Refusal). kept n (written (flat cells) y.out) y.out) accepted
 
   module _ (k : length signs ≡ m.tps_count) (l : d.count < SYMBOLS) where
     cells-size : length cells ≡ m.tps_count
@@ -63,11 +65,11 @@ module _ (m : Mode) (bit : ℕ) (e e' : TpsEncoder) (d d' : TpsDecoder) (y : Sym
     fed-receiver : (v : ℕ) → bit_of m d.count cells d.prev ≡ v → d' ≡ receiver signs d v
     fed-receiver v ev =
         y.receiver ∙ ap (λ (x : Fed). x.decoder) y.feeds
-        ∙ ap (λ (n : ℕ). fed_on n (first_cells m.tps_count y.left)) (feed-accepted m d y.left fed-room l)
-        ∙ ap (λ (c : List Cell). fed_on 0 c) fed-cells
+        ∙ ap (λ (n : Option Refusal). fed_on n (first_cells m.tps_count y.left)) (feed-accepted m d y.left fed-room l)
+        ∙ ap (λ (c : List Cell). fed_on None c) fed-cells
         ∙ ap (λ (b : ℕ). receiver signs d b) ev
       where
-        fed_on : ℕ → List Cell → TpsDecoder
+        fed_on : Option Refusal → List Cell → TpsDecoder
         fed_on n c = kept n (record { prev = c; bits = set (held_bits d.count d.bits) d.count (bit_of m d.count c d.prev); count = d.count + 1 }) d
 
 -- ---- the first symbol, and a later one

@@ -5,10 +5,13 @@ use mathlib.Core.Bool.{not}
 use mathlib.Core.Logic.Iff
 use mathlib.Core.Logic.{◌⊎◌, inl, inr, ⊎_elim, ◌↔◌}
 use mathlib.Core.List.{List, [], ◌∷◌, map}
-use Prim.Native.Nat.{ℕ, zero, suc, ◌<◌, ◌≤◌, min}
+use Prim.Native.Nat.{ℕ, ◌<◌, ◌≤◌, min}
 use native.Mathlib.Omega.{arith}
 use lib.Dec.{eqb, ltb}
 use lib.ListN.{length, take, drop, length-map}
+use Rattle.std.specs.Prelude.{Option, Some, None}
+use Rattle.ground.specs.declared.Refusal.{Refusal}
+use Rattle.ground.specs.declared.Refusal.TheVariants as the
 use Rattle.ground.specs.Refusal.{ACCEPTED, LENGTH, NOT_A_BIT, NO_WORD, RESERVED, INCOMPLETE, Test, ◌gives◌}
 use Rattle.ground.specs.Bits.{Bits, are_bits}
 use Rattle.ground.proofs.Bits.{are-bits}
@@ -16,25 +19,25 @@ use Rattle.ground.proofs.Exactly.{Decides, less_decides, equal_decides, bits_dec
 use Rattle.bch.specs.Code.{Codeword, distance, Lone}
 use Rattle.bch.proofs.Distance.{unique}
 use Rattle.tps.specs.declared.receiver.TpsDecoder.{TpsDecoder}
-use Rattle.tps.specs.declared.word.Unpacked.{Unpacked}
 use Rattle.tps.specs.Word.{SYMBOLS, said}
-use Rattle.tps.specs.Packing.{number_of, unpack_no, UnpacksBy, Unpacks}
+use Rattle.tps.specs.Packing.{Unpacked, number_of, unpack_no, UnpacksBy, Unpacks}
 use Rattle.tps.specs.Receive.{word_no, WordsBy, Words}
 use Rattle.tps.proofs.Unpacking.{unpack_accepted, rest-length, rest-bits, received-number}
 use Rattle.tps.proofs.StandingBits.{held-are-bits}
 
--- ---- a promise by the number of its tests: R zero where they pass, and else their number
+-- ---- a promise by the refusal of its tests: R None where they pass, and else their refusal
 
-module _ {n : ℕ} (R : ℕ → Type 0) (refuses : (k : ℕ) → R (suc k) → n ≡ suc k) where
-  -- a number that the tests give
-  by_tests : (number k : ℕ) → R number → 0 < k → (R zero → n ≡ k → ⊥) → (n ≡ k) ↔ (number ≡ k)
-  by_tests zero k h p f = (λ e. absurd (f h e), λ e. absurd (omega (arith, p, e)))
-  by_tests (suc j) k h p f = (λ e. sym (refuses j h) ∙ e, λ e. refuses j h ∙ e)
+module _ {n : Option Refusal} (R : Option Refusal → Type 0) (refuses : (k : Refusal) → R (Some k) → n ≡ Some k) where
+  -- a refusal that the tests give
+  by_tests : (number : Option Refusal) (k : Refusal) → R number → (R None → n ≡ Some k → ⊥) → (n ≡ Some k) ↔ (number ≡ Some k)
+  by_tests None k h f = (λ e. absurd (f h e), λ e. cc)
+  by_tests (Some j) k h f = (λ e. sym (refuses j h) ∙ e, λ e. refuses j h ∙ e)
 
-  -- a number that is given where they pass, which is where Q
-  past-tests : {P Q : Type 0} (number k : ℕ) → R number → (number ≡ ACCEPTED) ↔ Q → (number ≡ k → ⊥) → (Q → R zero → (n ≡ k) ↔ P) → (n ≡ k) ↔ (Q × P)
-  past-tests zero k h q other f = (λ e. (q.0 refl, (f (q.0 refl) h).0 e), λ y. (f y.0 h).1 y.1)
-  past-tests (suc j) k h q other f = (λ e. absurd (other (sym (refuses j h) ∙ e)), λ y. absurd (omega (arith, q.1 y.0)))
+  -- a refusal that is given where they pass, which is where Q
+  past-tests : {P Q : Type 0} (number : Option Refusal) (k : Refusal) → R number → (number ≡ ACCEPTED) ↔ Q → (number ≡ Some k → ⊥) → (Q → R None → (n ≡ Some k) ↔ P)
+      → (n ≡ Some k) ↔ (Q × P)
+  past-tests None k h q other f = (λ e. (q.0 refl, (f (q.0 refl) h).0 e), λ y. (f y.0 h).1 y.1)
+  past-tests (Some j) k h q other f = (λ e. absurd (other (sym (refuses j h) ∙ e)), λ y. let z = q.1 y.0 in cc)
 
 -- ---- 68 bits: NO WORD or RESERVED, or the call is accepted
 
@@ -50,16 +53,16 @@ abbrev pub Sized : List ℕ → Type 0
 Sized b = (length b ≡ SYMBOLS) × Bits b
 
 module _ (b : List ℕ) (r : Unpacked) where
-  by-none : UnpacksBy zero b r → (number_of r ≡ NO_WORD) ↔ Lone (drop 1 b)
+  by-none : UnpacksBy None b r → (number_of r ≡ NO_WORD) ↔ Lone (drop 1 b)
   by-none (inl h) = (
-    λ e. absurd (⊎_elim (λ x. omega (arith, e, x.0)) (λ x. omega (arith, e, x.0)) (received-number h)),
+    λ e. absurd (⊎_elim (λ x. let z = x.0 in cc) (λ x. let z = x.0 in cc) (received-number h)),
     λ l. absurd (l h.word h.codeword h.near),
   )
   by-none (inr h) = (λ e. h.0, λ l. h.1)
 
-  by-reserved : Sized b → UnpacksBy zero b r → (number_of r ≡ RESERVED) ↔ Reserves (drop 1 b)
+  by-reserved : Sized b → UnpacksBy None b r → (number_of r ≡ RESERVED) ↔ Reserves (drop 1 b)
   by-reserved s (inl h) = (
-    λ e. ⊎_elim (λ x. absurd (omega (arith, e, x.0))) (λ x. record { word = h.word; codeword = h.codeword; near = h.near; reserved = x.1 }) (received-number h),
+    λ e. ⊎_elim (λ x. let z = x.0 in cc) (λ x. record { word = h.word; codeword = h.codeword; near = h.near; reserved = x.1 }) (received-number h),
     λ k. ⊎_elim (λ x. absurd (small k x.1 x.2)) (λ x. x.0) (received-number h),
   )
     where
@@ -70,13 +73,12 @@ module _ (b : List ℕ) (r : Unpacked) where
           unique k.word h.word (drop 1 b) k.codeword h.codeword (rest-bits b s.0 a) (rest-length b s.0 a) k.near h.near in
           ⊎_elim (λ y. omega (arith, y, c)) (λ y. omega (arith, y, rate))
           (subst (λ (w : List ℕ). (3 ≤ said 25 26 (take 53 w)) ⊎ (5 ≤ said 30 32 (take 53 w))) same k.reserved)
-  by-reserved s (inr h) = (λ e. absurd (omega (arith, e, h.1)), λ k. absurd (h.0 k.word k.codeword k.near))
+  by-reserved s (inr h) = (λ e. let z = h.1 in cc, λ k. absurd (h.0 k.word k.codeword k.near))
 
-  -- no other number
-  not-by : UnpacksBy zero b r → (k : ℕ) → 0 < k → (k < 4) ⊎ (5 < k) → number_of r ≡ k → ⊥
-  not-by (inl h) k p f e =
-      ⊎_elim (λ x. omega (arith, p, e, x.0)) (λ x. ⊎_elim (λ y. omega (arith, e, x.0, y)) (λ y. omega (arith, e, x.0, y)) f) (received-number h)
-  not-by (inr h) k p f e = ⊎_elim (λ y. omega (arith, e, h.1, y)) (λ y. omega (arith, e, h.1, y)) f
+  -- no other refusal
+  not-by : UnpacksBy None b r → (k : Refusal) → (k ≡ the.NoWord → ⊥) → (k ≡ the.Reserved → ⊥) → number_of r ≡ Some k → ⊥
+  not-by (inl h) k word code e = ⊎_elim (λ x. let z = x.0 in cc) (λ x. let z = x.0 in code cc) (received-number h)
+  not-by (inr h) k word code e = let z = h.1 in word cc
 
 -- ---- unpacking
 
@@ -87,8 +89,8 @@ module _ (b : List ℕ) (r : Unpacked) (u : Unpacks b r) where
   abbrev tests : List Test
   tests = not (eqb (length b) SYMBOLS) gives LENGTH ∷ items
 
-  tested : (k : ℕ) → 0 < k → k < 4 → (number_of r ≡ k) ↔ (unpack_no b ≡ k)
-  tested k p l = by_tests (λ no. UnpacksBy no b r) (λ k h. h) (unpack_no b) k u p (λ h. not-by b r h k p (inl l))
+  tested : (k : Refusal) → (k ≡ the.NoWord → ⊥) → (k ≡ the.Reserved → ⊥) → (number_of r ≡ Some k) ↔ (unpack_no b ≡ Some k)
+  tested k word code = by_tests (λ no. UnpacksBy no b r) (λ k h. h) (unpack_no b) k u (λ h. not-by b r h k word code)
 
   other_length : Decides (not (eqb (length b) SYMBOLS)) (length b ≡ SYMBOLS → ⊥) (length b ≡ SYMBOLS)
   other_length = not_decides (equal_decides (length b) SYMBOLS)
@@ -97,20 +99,20 @@ module _ (b : List ℕ) (r : Unpacked) (u : Unpacks b r) where
   sized = given-behind LENGTH ACCEPTED items other_length tt (λ l. accepted-last NOT_A_BIT (not_decides (bits_decide b)) tt)
 
   pub unpacking_length : (number_of r ≡ LENGTH) ↔ (length b ≡ SYMBOLS → ⊥)
-  unpacking_length = Iff.trans (tested LENGTH (omega arith) (omega arith)) (given-here LENGTH items other_length tt)
+  unpacking_length = Iff.trans (tested the.Length (λ e. cc) (λ e. cc)) (given-here LENGTH items other_length tt)
 
   pub unpacking_not_a_bit : (number_of r ≡ NOT_A_BIT) ↔ ((length b ≡ SYMBOLS) × (Bits b → ⊥))
   unpacking_not_a_bit =
-      Iff.trans (tested NOT_A_BIT (omega arith) (omega arith))
+      Iff.trans (tested the.NotABit (λ e. cc) (λ e. cc))
       (given-behind LENGTH NOT_A_BIT items other_length tt (λ l. given-here NOT_A_BIT [] (not_decides (bits_decide b)) tt))
 
   pub unpacking_no_word : (number_of r ≡ NO_WORD) ↔ (Sized b × Lone (drop 1 b))
   unpacking_no_word =
-      past-tests (λ no. UnpacksBy no b r) (λ k h. h) (unpack_no b) NO_WORD u sized (lacks-number NO_WORD tests tt) (λ s. by-none b r)
+      past-tests (λ no. UnpacksBy no b r) (λ k h. h) (unpack_no b) the.NoWord u sized (lacks-number NO_WORD tests tt) (λ s. by-none b r)
 
   pub unpacking_reserved : (number_of r ≡ RESERVED) ↔ (Sized b × Reserves (drop 1 b))
   unpacking_reserved =
-      past-tests (λ no. UnpacksBy no b r) (λ k h. h) (unpack_no b) RESERVED u sized (lacks-number RESERVED tests tt) (by-reserved b r)
+      past-tests (λ no. UnpacksBy no b r) (λ k h. h) (unpack_no b) the.Reserved u sized (lacks-number RESERVED tests tt) (by-reserved b r)
 
 -- ---- a call for the word
 
@@ -122,22 +124,22 @@ module _ (d : TpsDecoder) (z : length d.bits ≡ SYMBOLS) (r : Unpacked) (w : Wo
   held-sized : Sized held
   held-sized = (length-map d.bits (min 1) ∙ z, held-are-bits d.bits)
 
-  near : Unpacks held r → UnpacksBy zero held r
-  near u = subst (λ (k : ℕ). UnpacksBy k held r) (unpack_accepted held held-sized.0 (are-bits held held-sized.1)) u
+  near : Unpacks held r → UnpacksBy None held r
+  near u = subst (λ (k : Option Refusal). UnpacksBy k held r) (unpack_accepted held held-sized.0 (are-bits held held-sized.1)) u
 
   complete : (word_no d ≡ ACCEPTED) ↔ (SYMBOLS ≤ d.count)
   complete = accepted-last INCOMPLETE (less_decides d.count SYMBOLS) tt
 
   pub asking_incomplete : (number_of r ≡ INCOMPLETE) ↔ (d.count < SYMBOLS)
   asking_incomplete =
-      Iff.trans (by_tests (λ no. WordsBy no d r) (λ k h. h) (word_no d) INCOMPLETE w (omega arith) (λ u. not-by held r (near u) INCOMPLETE (omega arith) (inr (omega arith))))
+      Iff.trans (by_tests (λ no. WordsBy no d r) (λ k h. h) (word_no d) the.Incomplete w (λ u. not-by held r (near u) the.Incomplete (λ e. cc) (λ e. cc)))
       (given-here INCOMPLETE [] (less_decides d.count SYMBOLS) tt)
 
-  asked : {P : Type 0} (k : ℕ) → (word_no d ≡ k → ⊥) → (UnpacksBy zero held r → (number_of r ≡ k) ↔ P) → (number_of r ≡ k) ↔ ((SYMBOLS ≤ d.count) × P)
+  asked : {P : Type 0} (k : Refusal) → (word_no d ≡ Some k → ⊥) → (UnpacksBy None held r → (number_of r ≡ Some k) ↔ P) → (number_of r ≡ Some k) ↔ ((SYMBOLS ≤ d.count) × P)
   asked k other f = past-tests (λ no. WordsBy no d r) (λ k h. h) (word_no d) k w complete other (λ c u. f (near u))
 
   pub asking_no_word : (number_of r ≡ NO_WORD) ↔ ((SYMBOLS ≤ d.count) × Lone (drop 1 held))
-  asking_no_word = asked NO_WORD (lacks-number NO_WORD (ltb d.count SYMBOLS gives INCOMPLETE ∷ []) tt) (by-none held r)
+  asking_no_word = asked the.NoWord (lacks-number NO_WORD (ltb d.count SYMBOLS gives INCOMPLETE ∷ []) tt) (by-none held r)
 
   pub asking_reserved : (number_of r ≡ RESERVED) ↔ ((SYMBOLS ≤ d.count) × Reserves (drop 1 held))
-  asking_reserved = asked RESERVED (lacks-number RESERVED (ltb d.count SYMBOLS gives INCOMPLETE ∷ []) tt) (by-reserved held r held-sized)
+  asking_reserved = asked the.Reserved (lacks-number RESERVED (ltb d.count SYMBOLS gives INCOMPLETE ∷ []) tt) (by-reserved held r held-sized)

@@ -1,8 +1,9 @@
 -- Document 01, 'TPS', sending; EN 300 744, 4.6.3: the cells of the TPS carriers in rising active order, imaginary +0.0,
 -- at symbol 0 the sign of w, bit ignored if 0 or 1; later a 1 flips all signs.
-use Rattle.std.specs.Prelude.{cond, List, [], ◌∷◌, map, ℕ, zero, suc, eqb, ltb, Float}
+use Rattle.std.specs.Prelude.{cond, List, [], ◌∷◌, map, ℕ, zero, suc, eqb, ltb, Float, Option}
 use Rattle.std.specs.Float.{binary32}
 use Rattle.std.specs.Float.Ieee.{of_bits, neg}
+use Rattle.ground.specs.declared.Refusal.{Refusal}
 use Rattle.ground.specs.Refusal.{NOT_A_BIT, OUTPUT_SHORT, ◌gives◌, first_of}
 use Rattle.ground.specs.Answer.{counted, kept, written, short}
 use Rattle.ground.specs.declared.Cell.{Cell}
@@ -33,7 +34,7 @@ module _ (m : Mode) where
   abbrev pub signs_of : TpsEncoder → ℕ → List Float
   signs_of e bit = cond (eqb e.started 0) start_signs (cond (eqb bit 1) (map neg e.signs) e.signs)
 
-  abbrev pub send_no : ℕ → List Float → ℕ
+  abbrev pub send_no : ℕ → List Float → Option Refusal
   send_no bit out = first_of (ltb 1 bit gives NOT_A_BIT ∷ short (tps_size m) out gives OUTPUT_SHORT ∷ [])
 
   -- what sending a bit answers, how many cells, with the sender after it

@@ -1,55 +1,41 @@
 // The receiver, lent in parts: a symbol is fed where the receiver stands, and nothing of it is moved.
 ghost use Rattle.std.specs.Prelude.{◌≡◌, ◌≤◌, length};
-ghost use Rattle.ground.specs.Answer.{written};
-ghost use Rattle.ground.specs.Cells.{flat};
 ghost use Rattle.carriers.specs.Mode.{mode2k, tps_size};
-ghost use Rattle.tps.specs.Receive.{first_cells, correlation, bit_of, feed_answer};
-ghost use Rattle.tps.specs.Lent.{lent_decoder, lent_fed};
+ghost use Rattle.tps.specs.Receive.{first_cells, correlation, feed_answer};
+ghost use Rattle.tps.specs.Lent.{next_answer, lent_decoder, lent_fed};
 
-use super::receiver::TpsBit;
 use super::{TPS_SYMBOLS_PER_FRAME, inner};
 use carriers::{TPS_CARRIER_COUNT, TPS_FLOATS};
+use ground::Refusal;
 
 // The sum of the carriers' products with the previous symbol's, in order from +0.0, each operation rounded once.
-fn correlate(cells: &[f32], prev: &[f32]) -> f32
-    requires { (tps_size mode2k ≤ length cells.now) × (tps_size mode2k ≤ length prev.now) }
+// By place, because a fold over pairs of cells, which have to be copied out first, misses the speed of feeding in place.
+fn correlate(cells: &[f32], prev: &[f32; TPS_FLOATS]) -> f32
+    requires { tps_size mode2k ≤ length cells.now }
     ensures { result ≡ correlation mode2k.tps_count
         (first_cells mode2k.tps_count cells.now) (first_cells mode2k.tps_count prev.now) }
 {
     let mut sum = 0.0f32;
-    let mut k: usize = 0;
-    while k < TPS_CARRIER_COUNT {
+    for k in 0..TPS_CARRIER_COUNT {
         let a = ground::inner::cell_at(cells, k);
         let b = ground::inner::cell_at(prev, k);
         sum = sum + (a.re * b.re - a.im * (-b.im));
-        k += 1;
     }
     sum
 }
 
-// The bit of the symbol that is fed when count symbols stand.
-fn tps_bit(count: usize, cells: &[f32], prev: &[f32]) -> u8
-    requires { (tps_size mode2k ≤ length cells.now) × (tps_size mode2k ≤ length prev.now) }
-    ensures { result ≡ bit_of mode2k count
-        (first_cells mode2k.tps_count cells.now) (first_cells mode2k.tps_count prev.now) }
+// The bit of the symbol that is fed when count symbols stand. Inlined, because a call would slow both feeds.
+#[inline(always)]
+pub(crate) fn next_bit(count: usize, cells: &[f32], prev: &[f32; TPS_FLOATS]) -> Result<u8, Refusal>
+    ensures { result ≡ next_answer mode2k count cells.now prev.now }
 {
-    if count == 0 {
-        return 0;
+    if cells.len() < TPS_FLOATS {
+        return Err(Refusal::Length);
     }
-    let sum = correlate(cells, prev);
-    if sum < 0.0 {
-        return 1;
+    if TPS_SYMBOLS_PER_FRAME <= count {
+        return Err(Refusal::Full);
     }
-    0
-}
-
-// The symbol's cells, written to the lent receiver's.
-fn put_cells(cells: &[f32], prev: &mut [f32])
-    requires { (tps_size mode2k ≤ length cells.now) × (tps_size mode2k ≤ length prev.old) }
-    ensures { prev.new
-        ≡ written (flat (first_cells mode2k.tps_count cells.now)) prev.old }
-{
-    ground::inner::copy_cells(&cells[..TPS_FLOATS], &mut prev[..TPS_FLOATS]);
+    Ok(u8::from(count != 0 && correlate(cells, prev) < 0.0))
 }
 
 // The bit of one symbol's cells, re and im in turn, in rising active order (EN 300 744, 4.6.3).
@@ -58,21 +44,16 @@ pub fn feed_symbol(
     bits: &mut [u8; TPS_SYMBOLS_PER_FRAME],
     count: &mut usize,
     cells: &[f32],
-) -> TpsBit
+) -> Result<u8, Refusal>
     ensures { lent_fed mode2k result prev.new bits.new count.new ≡ feed_answer mode2k
         (lent_decoder mode2k prev.old bits.old count.old) cells.now }
 {
-    if cells.len() < TPS_FLOATS {
-        return TpsBit::Refused(ground::LENGTH);
-    }
     let n = *count;
-    if TPS_SYMBOLS_PER_FRAME <= n {
-        return TpsBit::Refused(ground::FULL);
-    }
-    let bit = tps_bit(n, cells, prev);
-    put_cells(cells, prev);
+    let bit = next_bit(n, cells, prev)?;
+    // Through cells, because `copy_from_slice`, which isn't inlined here, misses the speed of feeding in place.
+    *prev = inner::floats_of(&inner::first_cells(cells));
     *bits = inner::held_bits(*bits, n);
     bits[n] = bit;
     *count = n + 1;
-    TpsBit::Bit(bit)
+    Ok(bit)
 }

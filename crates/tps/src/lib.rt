@@ -11,6 +11,6 @@ pub mod word;
 pub const TPS_SYMBOLS_PER_FRAME: usize = 68;
 
 pub use bch::{Decoder, Mended, NO_PLACE};
-pub use receiver::{Fed, TpsBit, TpsDecoder};
+pub use receiver::{Fed, TpsDecoder};
 pub use sender::{Sent, TpsEncoder};
-pub use word::{GuardInterval, PunctureRate, TpsWord, Unpacked};
+pub use word::{GuardInterval, MendedWord, PunctureRate, TpsWord};

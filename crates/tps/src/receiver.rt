@@ -1,13 +1,14 @@
 // The receiver: the bits of a frame's symbols, and the word of 68 of them (EN 300 744, 4.6.3).
+// C reads and writes a `TpsDecoder`, and lends its parts, so its bits stand beside their count.
 ghost use Rattle.std.specs.Prelude.{◌≡◌, leb};
 ghost use Rattle.carriers.specs.Mode.{mode2k};
 ghost use Rattle.tps.specs.Word.{SYMBOLS};
-ghost use Rattle.tps.specs.Receive.{correlation, bit_of, fresh_decoder, feed_answer, bits_answer, bits_leaves, Words};
+ghost use Rattle.tps.specs.Receive.{fresh_decoder, feed_answer, bits_answer, bits_leaves, Words};
 
-use super::word::{TpsWord, Unpacked};
-use super::{TPS_SYMBOLS_PER_FRAME, inner};
-use carriers::{TPS_CARRIER_COUNT, TPS_FLOATS};
-use ground::{Cell, Counted};
+use super::word::{MendedWord, TpsWord};
+use super::{TPS_SYMBOLS_PER_FRAME, inner, lent};
+use carriers::TPS_CARRIER_COUNT;
+use ground::{Cell, Refusal};
 
 // The receiver: the previous symbol's cells, the bits, and how many symbols stand. A count above 68 is read as 68, and
 // a held bit above 1 as 1, which a feed makes it; it makes bits that don't stand 0.
@@ -19,47 +20,11 @@ pub struct TpsDecoder {
     pub count: usize,
 }
 
-// A bit, or the refusal's number.
-#[derive(Clone, Copy)]
-pub enum TpsBit {
-    Bit(u8),
-    Refused(u8),
-}
-
-// The bit of a symbol, or the refusal, and the receiver after the call.
+// The bit of a symbol, or the refusal, and the receiver after the call; the clauses over C (`SaysFed`) name its fields.
 #[derive(Clone, Copy)]
 pub struct Fed {
-    pub answer: TpsBit,
+    pub answer: Result<u8, Refusal>,
     pub decoder: TpsDecoder,
-}
-
-// The sum of the carriers' products with the previous symbol's, in order from +0.0, each operation rounded once.
-fn correlate(cells: [Cell; TPS_CARRIER_COUNT], prev: [Cell; TPS_CARRIER_COUNT]) -> f32
-    ensures { result ≡ correlation mode2k.tps_count cells prev }
-{
-    let mut sum = 0.0f32;
-    let mut k: usize = 0;
-    while k < TPS_CARRIER_COUNT {
-        let a = cells[k];
-        let b = prev[k];
-        sum = sum + (a.re * b.re - a.im * (-b.im));
-        k += 1;
-    }
-    sum
-}
-
-// The bit of the symbol that is fed when count symbols stand.
-fn tps_bit(count: usize, cells: [Cell; TPS_CARRIER_COUNT], prev: [Cell; TPS_CARRIER_COUNT]) -> u8
-    ensures { result ≡ bit_of mode2k count cells prev }
-{
-    if count == 0 {
-        return 0;
-    }
-    let sum = correlate(cells, prev);
-    if sum < 0.0 {
-        return 1;
-    }
-    0
 }
 
 impl TpsDecoder {
@@ -81,34 +46,27 @@ impl TpsDecoder {
         Self::new()
     }
 
-    // The bit of one symbol's cells, re and im in turn, in rising active order (EN 300 744, 4.6.3).
+    // The bit of one symbol's cells, re and im in turn, in rising active order (EN 300 744, 4.6.3). By the lent feed on
+    // parts of a copy it would be slower (measured).
     pub fn feed_symbol(self, cells: &[f32]) -> Fed
         ensures { result ≡ feed_answer mode2k self cells.now }
     {
-        if cells.len() < TPS_FLOATS {
-            return Fed {
-                answer: TpsBit::Refused(ground::LENGTH),
-                decoder: self,
-            };
-        }
         let count = self.count;
-        if TPS_SYMBOLS_PER_FRAME <= count {
+        let answer = lent::next_bit(count, cells, &inner::floats_of(&self.prev));
+        let Ok(bit) = answer else {
             return Fed {
-                answer: TpsBit::Refused(ground::FULL),
+                answer,
                 decoder: self,
             };
-        }
-        let first = inner::first_cells(cells);
-        let prev = self.prev;
-        let bit = tps_bit(count, first, prev);
-        let bits = self.bits;
-        let mut held = inner::held_bits(bits, count);
-        held[count] = bit;
+        };
+        let prev = inner::first_cells(cells);
+        let mut bits = inner::held_bits(self.bits, count);
+        bits[count] = bit;
         Fed {
-            answer: TpsBit::Bit(bit),
+            answer,
             decoder: TpsDecoder {
-                prev: first,
-                bits: held,
+                prev,
+                bits,
                 count: count + 1,
             },
         }
@@ -122,29 +80,26 @@ impl TpsDecoder {
     }
 
     // The received bits s0.., one for each symbol that stands, written to the lent output.
-    pub fn bits(self, out: &mut [u8]) -> Counted
+    pub fn bits(self, out: &mut [u8]) -> Result<usize, Refusal>
         ensures answer { result ≡ bits_answer self out.old }
         ensures output { out.new ≡ bits_leaves self out.old }
     {
         let standing = inner::standing_count(self.count);
         if out.len() < standing {
-            return Counted::Refused(ground::OUTPUT_SHORT);
+            return Err(Refusal::OutputShort);
         }
-        let bits = self.bits;
-        let held = inner::held_bits(bits, TPS_SYMBOLS_PER_FRAME);
-        ground::inner::copy(&held[..standing], &mut out[..standing]);
-        Counted::Count(standing)
+        let held = inner::held_bits(self.bits, TPS_SYMBOLS_PER_FRAME);
+        out[..standing].copy_from_slice(&held[..standing]);
+        Ok(standing)
     }
 
     // The word of 68 received bits.
-    pub fn word(self) -> Unpacked
+    pub fn word(self) -> Result<MendedWord, Refusal>
         ensures { Words self result }
     {
         if self.count < TPS_SYMBOLS_PER_FRAME {
-            return Unpacked::Refused(ground::INCOMPLETE);
+            return Err(Refusal::Incomplete);
         }
-        let bits = self.bits;
-        let held = inner::held_bits(bits, TPS_SYMBOLS_PER_FRAME);
-        TpsWord::unpack(&held)
+        TpsWord::unpack(&inner::held_bits(self.bits, TPS_SYMBOLS_PER_FRAME))
     }
 }

@@ -1,13 +1,15 @@
 // The sender: the cells of a frame's symbols, one bit a symbol (EN 300 744, 4.6.3).
 ghost use Rattle.std.specs.Prelude.{◌≡◌, map, ◌≤◌, length};
-ghost use Rattle.std.specs.Float.Ieee.{neg};
 ghost use Rattle.ground.specs.Answer.{written};
 ghost use Rattle.ground.specs.Cells.{flat};
 ghost use Rattle.carriers.specs.Mode.{mode2k, tps_size};
 ghost use Rattle.tps.specs.Send.{sign_cell, start_signs, fresh_encoder, signs_of, send_answer, send_leaves};
 
 use carriers::{TPS_CARRIER_COUNT, TPS_FLOATS};
-use ground::{Cell, Counted};
+use ground::{Cell, Refusal};
+use std::array;
+
+// The mark below is a byte and no bool, because C lends and reads this very struct.
 
 // The sender: each carrier's sign, and whether the frame's first symbol is sent, which any number but 0 says.
 #[repr(C)]
@@ -17,10 +19,11 @@ pub struct TpsEncoder {
     pub started: u8,
 }
 
-// How many cells were written, or the refusal, and the sender after the call.
+// How many cells were written, or the refusal, and the sender after the call; the clauses over C (`SaysSent`) name its
+// fields.
 #[derive(Clone, Copy)]
 pub struct Sent {
-    pub answer: Counted,
+    pub answer: Result<usize, Refusal>,
     pub encoder: TpsEncoder,
 }
 
@@ -33,29 +36,13 @@ fn tps_reference_signs() -> [f32; TPS_CARRIER_COUNT]
     ]
 }
 
-// All signs turned.
-fn turned(signs: [f32; TPS_CARRIER_COUNT]) -> [f32; TPS_CARRIER_COUNT]
-    ensures { result ≡ map neg signs }
-{
-    let mut other = [0.0f32; TPS_CARRIER_COUNT];
-    let mut k: usize = 0;
-    while k < TPS_CARRIER_COUNT {
-        other[k] = -signs[k];
-        k += 1;
-    }
-    other
-}
-
 // The cells of the signs, written to the lent output.
 fn put_signs(signs: [f32; TPS_CARRIER_COUNT], out: &mut [f32])
     requires { tps_size mode2k ≤ length out.old }
     ensures { out.new ≡ written (flat (map sign_cell signs)) out.old }
 {
-    let mut k: usize = 0;
-    while k < TPS_CARRIER_COUNT {
-        let re = signs[k];
-        ground::inner::put_cell(out, k, Cell { re, im: 0.0 });
-        k += 1;
+    for (k, re) in signs.iter().enumerate() {
+        ground::inner::put_cell(out, k, Cell { re: *re, im: 0.0 });
     }
 }
 
@@ -64,8 +51,10 @@ impl TpsEncoder {
     pub fn new() -> Self
         ensures { result ≡ fresh_encoder mode2k }
     {
-        let signs = tps_reference_signs();
-        Self { signs, started: 0 }
+        Self {
+            signs: tps_reference_signs(),
+            started: 0,
+        }
     }
 
     // The sender at the start of a frame again.
@@ -79,14 +68,13 @@ impl TpsEncoder {
     fn next_signs(self, bit: u8) -> [f32; TPS_CARRIER_COUNT]
         ensures { result ≡ signs_of mode2k self bit }
     {
-        let signs = self.signs;
         if self.started == 0 {
             return tps_reference_signs();
         }
         if bit == 1 {
-            return turned(signs);
+            return array::from_fn(|k| -self.signs[k]);
         }
-        signs
+        self.signs
     }
 
     // The cells of the next symbol, in rising active order, written to the lent output (EN 300 744, 4.6.3).
@@ -96,20 +84,20 @@ impl TpsEncoder {
     {
         if 1 < bit {
             return Sent {
-                answer: Counted::Refused(ground::NOT_A_BIT),
+                answer: Err(Refusal::NotABit),
                 encoder: self,
             };
         }
         if out.len() < TPS_FLOATS {
             return Sent {
-                answer: Counted::Refused(ground::OUTPUT_SHORT),
+                answer: Err(Refusal::OutputShort),
                 encoder: self,
             };
         }
         let signs = self.next_signs(bit);
         put_signs(signs, out);
         Sent {
-            answer: Counted::Count(TPS_CARRIER_COUNT),
+            answer: Ok(TPS_CARRIER_COUNT),
             encoder: TpsEncoder { signs, started: 1 },
         }
     }

@@ -5,32 +5,32 @@ ghost use Rattle.ground.specs.Digits.{value_of};
 ghost use Rattle.tps.specs.Word.{sync_of, information_of, codes_in};
 ghost use Rattle.tps.specs.Packing.{pack_answer, pack_leaves, Unpacks};
 
-use super::inner::{Codes, WordRead};
-use super::{TPS_SYMBOLS_PER_FRAME, inner};
-use bch::{Decoded, Decoder, Mended};
-use ground::{ConstellationOrder, Counted};
+use super::TPS_SYMBOLS_PER_FRAME;
+use super::inner::Codes;
+use bch::{Decoder, Mended};
+use ground::{ConstellationOrder, Refusal};
 
-// The rate of the inner code.
-#[derive(Clone, Copy)]
+// The rate of the inner code, by its 3-bit code (EN 300 744, 4.6.2.7).
+#[derive(Clone, Copy, Debug, PartialEq, Eq)]
 pub enum PunctureRate {
-    R1_2,
-    R2_3,
-    R3_4,
-    R5_6,
-    R7_8,
+    R1_2 = 0,
+    R2_3 = 1,
+    R3_4 = 2,
+    R5_6 = 3,
+    R7_8 = 4,
 }
 
-// The guard interval, as a part of the symbol.
-#[derive(Clone, Copy)]
+// The guard interval, as a part of the symbol, by its 2-bit code (EN 300 744, 4.6.2.8).
+#[derive(Clone, Copy, Debug, PartialEq, Eq)]
 pub enum GuardInterval {
-    G1_32,
-    G1_16,
-    G1_8,
-    G1_4,
+    G1_32 = 0,
+    G1_16 = 1,
+    G1_8 = 2,
+    G1_4 = 3,
 }
 
 // The parameters that a frame signals (EN 300 744, 4.6.2).
-#[derive(Clone, Copy)]
+#[derive(Clone, Copy, Debug, PartialEq, Eq)]
 pub struct TpsWord {
     pub frame_number: u8,
     pub constellation: ConstellationOrder,
@@ -39,11 +39,11 @@ pub struct TpsWord {
     pub cell_id: u8,
 }
 
-// A word and the bits of s1..s67 that were changed to read it, place i being s(i+1), or the refusal's number.
-#[derive(Clone, Copy)]
-pub enum Unpacked {
-    Word(TpsWord, Mended),
-    Refused(u8),
+// A word and the bits of s1..s67 that were changed to read it, place i being s(i+1).
+#[derive(Clone, Copy, Debug, PartialEq, Eq)]
+pub struct MendedWord {
+    pub word: TpsWord,
+    pub mended: Mended,
 }
 
 // The synchronization word of a frame (EN 300 744, 4.6.2.2).
@@ -85,58 +85,53 @@ impl TpsWord {
     fn information(self) -> u64
         ensures { result ≡ value_of 0 (information_of self) }
     {
-        let codes = inner::codes_of(self);
-        let frame = (sync_word(codes.frame) * 64 + 31) * 4 + (codes.frame % 4) as u64;
-        let points = frame * 4 + codes.constellation as u64;
-        let rate = (points * 64 + codes.rate as u64) * 8;
-        let cell = (rate * 4 + codes.guard as u64) * 1024 + codes.cell as u64;
+        let codes = Codes::from(self);
+        let frame = (sync_word(codes.frame) * 64 + 31) * 4 + u64::from(codes.frame % 4);
+        let points = frame * 4 + u64::from(codes.constellation);
+        let rate = (points * 64 + u64::from(codes.rate)) * 8;
+        let cell = (rate * 4 + u64::from(codes.guard)) * 1024 + u64::from(codes.cell);
         cell * 64
     }
 
     // The 68 bits s0..s67 of the word, written to the lent output (EN 300 744, 4.6.2).
-    pub fn pack(self, out: &mut [u8]) -> Counted
+    pub fn pack(self, out: &mut [u8]) -> Result<usize, Refusal>
         ensures answer { result ≡ pack_answer out.old }
         ensures output { out.new ≡ pack_leaves self out.old }
     {
         if out.len() < TPS_SYMBOLS_PER_FRAME {
-            return Counted::Refused(ground::OUTPUT_SHORT);
+            return Err(Refusal::OutputShort);
         }
         let information = self.information();
         let parity = bch::inner::parity_of(information);
         out[0] = 0;
         ground::inner::put_digits(information, &mut out[1..54]);
         ground::inner::put_digits(parity, &mut out[54..TPS_SYMBOLS_PER_FRAME]);
-        Counted::Count(TPS_SYMBOLS_PER_FRAME)
+        Ok(TPS_SYMBOLS_PER_FRAME)
     }
 
     // The word of the codeword within distance two of s1..s67, and the bits that were changed, by either decoder
     // (EN 300 744, 4.6.2).
-    pub fn unpack_by(decoder: Decoder, bits: &[u8]) -> Unpacked
+    pub fn unpack_by(decoder: Decoder, bits: &[u8]) -> Result<MendedWord, Refusal>
         ensures { Unpacks bits.now result }
     {
         if bits.len() != TPS_SYMBOLS_PER_FRAME {
-            return Unpacked::Refused(ground::LENGTH);
+            return Err(Refusal::Length);
         }
         if 1 < bits[0] {
-            return Unpacked::Refused(ground::NOT_A_BIT);
+            return Err(Refusal::NotABit);
         }
         let code = &bits[1..];
         if !ground::inner::all_bits(code) {
-            return Unpacked::Refused(ground::NOT_A_BIT);
+            return Err(Refusal::NotABit);
         }
         let mut information = [0u8; 53];
-        let Decoded::Information(mended) = bch::tps_bch_decode_by(decoder, code, &mut information)
-        else {
-            return Unpacked::Refused(ground::NO_WORD);
-        };
-        let WordRead::Known(word) = inner::word_of(read_codes(&information)) else {
-            return Unpacked::Refused(ground::RESERVED);
-        };
-        Unpacked::Word(word, mended)
+        let mended = bch::tps_bch_decode_by(decoder, code, &mut information)?;
+        let word = TpsWord::try_from(read_codes(&information))?;
+        Ok(MendedWord { word, mended })
     }
 
     // The same by the fast decoder.
-    pub fn unpack(bits: &[u8]) -> Unpacked
+    pub fn unpack(bits: &[u8]) -> Result<MendedWord, Refusal>
         ensures { Unpacks bits.now result }
     {
         TpsWord::unpack_by(Decoder::Fast, bits)

@@ -1,17 +1,19 @@
 -- The register that each packet of a group is whitened from, a packet dispersed with the outputs of a group, and
 -- dispersing twice, which is the identity. Assumes nothing.
-use Prim.Native.Nat.{ℕ, zero, suc, ◌+◌, ◌*◌, ◌%◌, ◌<◌, ◌≤◌, ◌/◌}
+use Prim.Native.Nat.{ℕ, zero, suc, ◌+◌, ◌*◌, ◌%◌, ◌≤◌, ◌/◌}
 use native.Mathlib.Omega.{arith}
 use mathlib.Core.Path.{◌≡◌, refl, sym, ap, ap₂, ◌∙◌}
 use mathlib.Core.Bool.{Bool, true, false, cond}
 use mathlib.Core.List.{List, [], ◌∷◌, ◌++◌, append-nil}
-use lib.Bits.{bit_xor, xor_zero_r}
+use lib.Bits.{bit_xor}
 use lib.Dec.{eqb}
 use lib.ListN.{length, get_or, set, take, drop, length-take, length-drop, drop_of_length-le}
 use lib.Seq.{take_all, drop_at, length-take-le}
 use borrow.Author.Tests.{eqb-true, eqb-false}
 use borrow.Rule.Slice.PartMut.{mid_of, put_mid}
 use Rattle.ground.specs.Answer.{kept}
+use Rattle.std.specs.Prelude.{Option}
+use Rattle.ground.specs.declared.Refusal.{Refusal}
 use Rattle.ground.specs.Chunks.{chunks}
 use Rattle.ground.proofs.Chunks.{Each, chunks-length, chunks-chunks, chunks-agree, chunks-same}
 use Rattle.ground.proofs.Front.{front}
@@ -59,32 +61,21 @@ dispersed-length i (b ∷ bs) = ap suc (whitened-length (register_at i) bs)
 pub dispersed_each : (n : ℕ) (s : List ℕ) → 188 * n ≤ length s → Each dispersed_packet 188 188 n 0 s
 dispersed_each n s h j l = dispersed-length (0 + j) (take 188 (drop (188 * j) s)) ∙ simp (length-take, length-drop) (omega arith)
 
--- the first byte of the packet at place k
-sync-by : (k b : ℕ) (t : Bool) → k < 8 → eqb k 0 ≡ t → bit_xor b (cond t 0xFF 0) ≡ sync k b
-unfolding sync
-sync-by k b true h e = let m : k % 8 ≡ k = omega arith in sym (ap (λ (x : ℕ). cond (eqb x 0) (bit_xor b 0xFF) b) m ∙ ap (λ (x : Bool). cond x (bit_xor b 0xFF) b) e)
-sync-by k b false h e =
-    let m : k % 8 ≡ k = omega arith in xor_zero_r b ∙ sym (ap (λ (x : ℕ). cond (eqb x 0) (bit_xor b 0xFF) b) m ∙ ap (λ (x : Bool). cond x (bit_xor b 0xFF) b) e)
-
-pub sync-put : (k b m : ℕ) → k < 8 → m ≡ cond (eqb k 0) 0xFF 0 → bit_xor b m ≡ sync k b
-sync-put k b m h e = ap (bit_xor b) e ∙ sync-by k b (eqb k 0) h refl
-
--- the part of the outputs that the code lends for the packet at place k
-lent_outputs : (k m : ℕ) (u : List ℕ) → k < 8 → m ≡ 187 → u ≡ stream 1504 start → take m (drop (188 * k) u) ≡ stream 187 (register_at k)
-lent_outputs k m u h em eu =
-    let e : k % 8 ≡ k = omega arith in
-    ap₂ (λ (x : ℕ) (y : List ℕ). take x (drop (188 * k) y)) em eu ∙ stream-part 187 (188 * k) 1504 start (omega arith)
-    ∙ ap (stream 187) (ap (λ (x : ℕ). steps (8 * (188 * x)) start) (sym e) ∙ sym (register_at_is_steps k))
+-- the part of a group's outputs that the code lends for packet i
+pub part_of_group : (i m : ℕ) (u : List ℕ) → m ≡ 187 → u ≡ stream 1504 start → take m (drop (188 * (i % 8)) u) ≡ stream 187 (register_at i)
+part_of_group i m u em eu =
+    ap₂ (λ (x : ℕ) (y : List ℕ). take x (drop (188 * (i % 8)) y)) em eu
+    ∙ stream-part 187 (188 * (i % 8)) 1504 start (omega arith) ∙ ap (stream 187) (sym (register_at_is_steps i))
 
 -- the first byte was put, and the tail lent behind it came back as the bytes behind it, whitened
-pub packet-put : (k m n b : ℕ) (u p q bs t : List ℕ) → k < 8 → m ≡ 187 → u ≡ stream 1504 start → length p ≡ 188 → q ≡ set p 0 (sync k b) → n ≡ 187
-    → length bs ≡ 187 → t ≡ xored bs (take m (drop (188 * k) u)) → put_mid 1 n q t ≡ dispersed_packet k (b ∷ bs)
+pub packet-put : (i n b : ℕ) (u p q bs t : List ℕ) → u ≡ stream 187 (register_at i) → length p ≡ 188 → q ≡ set p 0 (sync i b) → n ≡ 187
+    → length bs ≡ 187 → t ≡ xored bs u → put_mid 1 n q t ≡ dispersed_packet i (b ∷ bs)
 unfolding dispersed_packet
-packet-put k m n b u [] q bs t hk em eu l eq en lb et = absurd (omega arith)
-packet-put k m n b u (x ∷ p) q bs t hk em eu l eq en lb et =
+packet-put i n b u [] q bs t eu l eq en lb et = absurd (omega arith)
+packet-put i n b u (x ∷ p) q bs t eu l eq en lb et =
     let rest : drop n p ≡ [] = drop_of_length-le p {i = n} (omega arith) in
-    let w : t ≡ whitened (register_at k) bs = et ∙ ap (xored bs) (lent_outputs k m u hk em eu ∙ ap (λ (y : ℕ). stream y (register_at k)) (sym lb)) ∙ xored_is_whitened (register_at k) bs in
-    ap₂ (put_mid 1 n) eq w ∙ ap (λ (y : List ℕ). sync k b ∷ (whitened (register_at k) bs ++ y)) rest ∙ ap (λ (y : List ℕ). sync k b ∷ y) (append-nil (whitened (register_at k) bs))
+    let w : t ≡ whitened (register_at i) bs = et ∙ ap (xored bs) (eu ∙ ap (λ (y : ℕ). stream y (register_at i)) (sym lb)) ∙ xored_is_whitened (register_at i) bs in
+    ap₂ (put_mid 1 n) eq w ∙ ap (λ (y : List ℕ). sync i b ∷ (whitened (register_at i) bs ++ y)) rest ∙ ap (λ (y : List ℕ). sync i b ∷ y) (append-nil (whitened (register_at i) bs))
 
 -- a packet's own first byte, and the tail lent behind it, are the packet
 pub own_packet : (n y : ℕ) (p q : List ℕ) → length p ≡ 188 → q ≡ set p 0 y → n ≡ 187 → get_or p 0 0 ∷ mid_of 1 n q ≡ p
@@ -126,10 +117,10 @@ twice-by-length : (s : List ℕ) (t : Bool) → eqb (length s % 188) 0 ≡ t →
 twice-by-length s true e =
     let m : length s % 188 ≡ 0 = eqb-true (length s % 188) 0 e in
     let l : length (dispersed s) % 188 ≡ 0 = omega (arith, dispersed-same-length s m) in
-    let a : disperse_leaves s ≡ dispersed s = ap (λ (no : ℕ). kept no (dispersed s) s) (disperse_accepted s m) in
-    ap disperse_leaves a ∙ ap (λ (no : ℕ). kept no (dispersed (dispersed s)) (dispersed s)) (disperse_accepted (dispersed s) l) ∙ dispersed-twice s m
+    let a : disperse_leaves s ≡ dispersed s = ap (λ (no : Option Refusal). kept no (dispersed s) s) (disperse_accepted s m) in
+    ap disperse_leaves a ∙ ap (λ (no : Option Refusal). kept no (dispersed (dispersed s)) (dispersed s)) (disperse_accepted (dispersed s) l) ∙ dispersed-twice s m
 twice-by-length s false e =
-    let a : disperse_leaves s ≡ s = ap (λ (no : ℕ). kept no (dispersed s) s) ((disperse_length_exactly s).1 (eqb-false (length s % 188) 0 e)) in ap disperse_leaves a ∙ a
+    let a : disperse_leaves s ≡ s = ap (λ (no : Option Refusal). kept no (dispersed s) s) ((disperse_length_exactly s).1 (eqb-false (length s % 188) 0 e)) in ap disperse_leaves a ∙ a
 
 -- what `ts_energy_disperse` leaves of what it left is the buffer, for every buffer
 pub dispersed_twice_is_same : (s : List ℕ) → disperse_leaves (disperse_leaves s) ≡ s

@@ -42,11 +42,6 @@ pub lent_payload : (s : List ℕ) (i m : ℕ) → m ≡ 187 → take m (drop (18
 lent_payload s i m em =
     ap (λ (x : ℕ). take x (drop (188 * i + 1) s)) em ∙ ap (take 187) (sym (drop-drop 1 (188 * i) s)) ∙ sym (drop-take 187 (drop (188 * i) s))
 
--- a full payload has no zeros behind it
-pub padded-full : (c : List ℕ) → length c ≡ 187 → c ≡ padded c
-unfolding padded
-padded-full c h = let z : 0 ≡ 187 - length c = omega arith in sym (append-nil c) ∙ ap (λ (n : ℕ). c ++ replicate n 0) z
-
 -- a front of n items and the part behind it were lent, and came back as t and u
 pub front-and-rest : (tail t u : List ℕ) (n k : ℕ) → length t ≡ n → length tail ≤ n + k → put_mid n k (t ++ drop n tail) u ≡ t ++ u
 front-and-rest tail t u n k lt h =

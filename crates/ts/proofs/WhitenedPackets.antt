@@ -1,24 +1,27 @@
 -- A payload's packets made and whitened one by one are the packets made and then dispersed, as the two steps in turn
 -- leave them; whitened again they are the clear packets, which no payload's are before. Assumes nothing.
-use Prim.Native.Nat.{ℕ, suc, ◌+◌, ◌-◌, ◌*◌, ◌/◌, ◌%◌, ◌<◌}
+use Prim.Native.Nat.{ℕ, suc, ◌+◌, ◌-◌, ◌*◌, ◌/◌, ◌<◌, min}
 use native.Mathlib.Omega.{arith}
 use mathlib.Core.Path.{◌≡◌, refl, sym, ap, ap₂, ◌∙◌}
 use mathlib.Core.Bool.{Bool, true, false}
 use mathlib.Core.List.{List, ◌++◌}
-use lib.ListN.{length, get_or, take, drop}
+use lib.ListN.{length, get_or, take, drop, length-drop}
 use lib.Seq.{take_at, drop_at}
 use borrow.Rule.Slice.PartMut.{put_mid}
 use Rattle.ground.specs.Answer.{count_of, kept, written, short}
+use Rattle.std.specs.Prelude.{Option}
+use Rattle.std.proofs.lemmas.List.{take_min}
+use Rattle.ground.specs.declared.Refusal.{Refusal}
 use Rattle.ground.specs.Chunks.{chunks}
 use Rattle.ground.specs.Refusal.{ACCEPTED}
 use Rattle.ground.proofs.Chunks.{Each, chunks-length, chunks-next, chunks-chunks}
 use Rattle.ground.proofs.Front.{front, front-full}
-use Rattle.ts.specs.Packets.{count, packet, packetized, bytes_for, packetize_no, packetize_answer, packetize_leaves}
+use Rattle.ts.specs.Packets.{count, packet, packetized, bytes_for, packetize_answer, packetize_leaves}
 use Rattle.ts.specs.Dispersal.{sync, dispersed_packet, dispersed, disperse_no, disperse_leaves}
 use Rattle.ts.specs.PacketizeDispersed.{packetize_dispersed_answer, packetize_dispersed_leaves}
 use Rattle.ts.proofs.Numbers.{disperse_accepted}
 use Rattle.ts.proofs.Packets.{packets_each, packetized-length}
-use Rattle.ts.proofs.Dispersal.{place_decides, dispersed-length, dispersed_twice_is_same}
+use Rattle.ts.proofs.Dispersal.{dispersed-length, dispersed_twice_is_same}
 
 -- part i of a payload as packet i, whitened
 abbrev pub whitened_packet : ℕ → List ℕ → List ℕ
@@ -44,12 +47,14 @@ module _ (s o : List ℕ) where
   abbrev wanted : List ℕ
   wanted = chunks whitened_packet 187 (count (length s)) 0 s
 
-  -- one packet more, whose part of the payload was lent and which came back by its place in the group
-  pub packet-next : (i k : ℕ) (out t part : List ℕ) → i < count (length s) → k ≡ 188 → part ≡ take 187 (drop (187 * i) s)
-      → out ≡ front wanted (188 * i) o → t ≡ dispersed_packet (i % 8) (packet part) → put_mid (188 * i) k out t ≡ front wanted (188 * (i + 1)) o
-  packet-next i k out t part h ek ep e et =
+  -- one packet more, whose part of the payload was lent up to its end or the payload's
+  pub packet-next : (i k m : ℕ) (out t : List ℕ) → i < count (length s) → k ≡ 188 → m ≡ min (length s) (187 * i + 187)
+      → out ≡ front wanted (188 * i) o → t ≡ whitened_packet i (take (m - 187 * i) (drop (187 * i) s)) → put_mid (188 * i) k out t ≡ front wanted (188 * (i + 1)) o
+  packet-next i k m out t h ek em e et =
+      let rest : List ℕ = drop (187 * i) s in
+      let n : m - 187 * i ≡ min 187 (length rest) = simp length-drop (omega arith) in
       chunks-next whitened_packet 187 188 (count (length s)) i k s o out t (whitened_each (count (length s)) s) h ek e
-      (et ∙ ap (whitened_packet (i % 8)) ep ∙ place_decides i (packet (take 187 (drop (187 * i) s))))
+      (et ∙ ap (whitened_packet i) (ap (λ (x : ℕ). take x rest) n ∙ take_min 187 rest))
 
   pub packets_end : (n : ℕ) (out : List ℕ) → n ≡ 188 * count (length s) → length o ≡ 188 * count (length s) → out ≡ front wanted n o
       → out ≡ dispersed (packetized s)
@@ -64,7 +69,7 @@ pub second_step_takes : (s : List ℕ) → disperse_no (packetized s) ≡ ACCEPT
 second_step_takes s = disperse_accepted (packetized s) (omega (arith, packetized-length s))
 
 pub second-step-leaves : (s : List ℕ) → disperse_leaves (packetized s) ≡ dispersed (packetized s)
-second-step-leaves s = ap (λ (number : ℕ). kept number (dispersed (packetized s)) (packetized s)) (second_step_takes s)
+second-step-leaves s = ap (λ (number : Option Refusal). kept number (dispersed (packetized s)) (packetized s)) (second_step_takes s)
 
 pub whitened-again : (s : List ℕ) → disperse_leaves (dispersed (packetized s)) ≡ packetized s
 whitened-again s = ap disperse_leaves (sym (second-step-leaves s)) ∙ dispersed_twice_is_same (packetized s)
@@ -79,7 +84,7 @@ InTurn payload out =
     × (packetize_dispersed_leaves payload out ≡ disperse_leaves (take n packets) ++ drop n packets)
 
 in_turn_by_room : (payload out : List ℕ) (t : Bool) → short (bytes_for payload) out ≡ t → InTurn payload out
-unfolding packetize_no disperse_no chunks
+unfolding chunks
 in_turn_by_room payload out true e = rw e (refl, refl, refl)
 in_turn_by_room payload out false e =
     let n : ℕ = bytes_for payload in

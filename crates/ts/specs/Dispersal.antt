@@ -1,10 +1,10 @@
 -- Document 01, 'Energy dispersal' (EN 300 744, 4.3.1), over transport packets in groups of eight.
-use Rattle.std.specs.Prelude.{not, cond, List, [], ◌∷◌, ℕ, zero, suc, ◌*◌, ◌/◌, ◌%◌, eqb, length}
+use Rattle.std.specs.Prelude.{not, cond, List, [], ◌∷◌, ℕ, zero, suc, ◌*◌, ◌/◌, ◌%◌, eqb, length, Option, Result}
 use Rattle.std.specs.Int.Bits.{bit_xor}
 use Rattle.ground.specs.Answer.{counted, kept}
 use Rattle.ground.specs.Chunks.{chunks}
 use Rattle.ground.specs.Refusal.{LENGTH, ◌gives◌, first_of}
-use Rattle.ground.specs.declared.Counted.{Counted}
+use Rattle.ground.specs.declared.Refusal.{Refusal}
 use Rattle.dispersal.specs.Register.{start, steps, whitened}
 
 -- the register behind the first byte of packet i: it restarts at the first of a group of eight, and in the seven
@@ -27,10 +27,10 @@ abbrev pub dispersed : List ℕ → List ℕ
 dispersed packets = chunks dispersed_packet 188 (length packets / 188) 0 packets
 
 -- ---- dispersing the packets of a buffer: its number, how many they are, and the buffer
-unfoldable pub disperse_no : List ℕ → ℕ
+abbrev pub disperse_no : List ℕ → Option Refusal
 disperse_no packets = first_of (not (eqb (length packets % 188) 0) gives LENGTH ∷ [])
 
-abbrev pub disperse_answer : List ℕ → Counted
+abbrev pub disperse_answer : List ℕ → Result ℕ Refusal
 disperse_answer packets = counted (disperse_no packets) (length packets / 188)
 
 abbrev pub disperse_leaves : List ℕ → List ℕ

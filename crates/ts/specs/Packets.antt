@@ -1,10 +1,10 @@
 -- Document 01, 'Transport packets': a packet is 188 bytes, 0x47 and then 187 of payload.
-use Rattle.std.specs.Prelude.{not, List, [], ◌∷◌, ◌++◌, ℕ, ◌+◌, ◌-◌, ◌*◌, ◌/◌, ◌%◌, max, eqb, length}
+use Rattle.std.specs.Prelude.{not, List, [], ◌∷◌, ◌++◌, ℕ, ◌+◌, ◌-◌, ◌*◌, ◌/◌, ◌%◌, max, eqb, length, Option, Result}
 use Rattle.std.specs.Prelude.{drop, replicate}
 use Rattle.ground.specs.Answer.{counted, kept, written, short, fill_no}
 use Rattle.ground.specs.Chunks.{chunks}
 use Rattle.ground.specs.Refusal.{LENGTH, OUTPUT_SHORT, ◌gives◌, first_of}
-use Rattle.ground.specs.declared.Counted.{Counted}
+use Rattle.ground.specs.declared.Refusal.{Refusal}
 
 -- how many packets n bytes of payload give: max(1, ceil(n / 187))
 abbrev pub count : ℕ → ℕ
@@ -28,10 +28,10 @@ bytes_for payload = 188 * count (length payload)
 
 -- ---- packetizing a payload into a lent output: its number, the bytes written, and the output. No call is this alone:
 -- it is the first of the two steps that one call takes (document 02, E5)
-unfoldable pub packetize_no : List ℕ → List ℕ → ℕ
+abbrev pub packetize_no : List ℕ → List ℕ → Option Refusal
 packetize_no payload out = fill_no (bytes_for payload) out
 
-abbrev pub packetize_answer : List ℕ → List ℕ → Counted
+abbrev pub packetize_answer : List ℕ → List ℕ → Result ℕ Refusal
 packetize_answer payload out = counted (packetize_no payload out) (bytes_for payload)
 
 abbrev pub packetize_leaves : List ℕ → List ℕ → List ℕ
@@ -42,7 +42,7 @@ abbrev pub payloads : List ℕ → List ℕ
 payloads packets = chunks (λ (i : ℕ) (p : List ℕ). drop 1 p) 188 (length packets / 188) 0 packets
 
 -- ---- taking packets apart into a lent output: its number, the bytes written, and the output
-unfoldable pub depacketize_no : List ℕ → List ℕ → ℕ
+abbrev pub depacketize_no : List ℕ → List ℕ → Option Refusal
 depacketize_no packets out =
     first_of
     (eqb (length packets) 0 gives LENGTH
@@ -50,7 +50,7 @@ depacketize_no packets out =
     ∷ short (187 * (length packets / 188)) out gives OUTPUT_SHORT
     ∷ [])
 
-abbrev pub depacketize_answer : List ℕ → List ℕ → Counted
+abbrev pub depacketize_answer : List ℕ → List ℕ → Result ℕ Refusal
 depacketize_answer packets out = counted (depacketize_no packets out) (187 * (length packets / 188))
 
 abbrev pub depacketize_leaves : List ℕ → List ℕ → List ℕ

@@ -1,9 +1,10 @@
 -- Document 01, 'Transport packets': the null packet, and stuffing.
 use Rattle.std.specs.Prelude.{not, List, [], ◌∷◌, ◌++◌, ℕ, ◌-◌, ◌*◌, ◌/◌, ◌%◌, max, eqb, take, drop, replicate}
+use Rattle.std.specs.Prelude.{Option, Result}
 use Rattle.ground.specs.Answer.{counted, kept, short}
 use Rattle.ground.specs.Chunks.{chunks}
 use Rattle.ground.specs.Refusal.{LENGTH, OUTPUT_SHORT, ◌gives◌, first_of}
-use Rattle.ground.specs.declared.Counted.{Counted}
+use Rattle.ground.specs.declared.Refusal.{Refusal}
 
 -- the null packet: 47 1F FF 10, then 184 bytes FF
 abbrev pub null : List ℕ
@@ -19,7 +20,7 @@ stuffed used target ts = take used ts ++ nulls (target - used / 188) ++ drop (ma
 
 -- ---- stuffing a buffer of which used bytes are in use, up to a target in packets: its number, the bytes then in use,
 -- and the buffer
-unfoldable pub stuff_no : ℕ → ℕ → List ℕ → ℕ
+abbrev pub stuff_no : ℕ → ℕ → List ℕ → Option Refusal
 stuff_no used target ts =
     first_of
     (short used ts gives LENGTH
@@ -27,7 +28,7 @@ stuff_no used target ts =
     ∷ short (188 * target) ts gives OUTPUT_SHORT
     ∷ [])
 
-abbrev pub stuff_answer : ℕ → ℕ → List ℕ → Counted
+abbrev pub stuff_answer : ℕ → ℕ → List ℕ → Result ℕ Refusal
 stuff_answer used target ts = counted (stuff_no used target ts) (max used (188 * target))
 
 abbrev pub stuff_leaves : ℕ → ℕ → List ℕ → List ℕ

@@ -1,5 +1,4 @@
 -- `carriers::decode` meets its contract: after k turns the bins and the values of the first k numbers stand at the fronts. Assumes nothing.
-use borrow.Author.Rules.{rules}
 use mathlib.Core.Path.{◌≡◌, sym, ◌∙◌}
 use mathlib.Core.List.{map}
 use Prim.Native.Nat.{ℕ, ◌*◌, ◌/◌}
@@ -28,12 +27,9 @@ loop-k-preserved c =
     let q : length (map cell codes) ≡ length codes = length-map codes cell in
     let set = c.put_cell.ensures in
     let value = c.boost.ensures ∙ sym (get_or-map cell codes at.k 0) in (
-      search rules,
-      search rules,
-      search rules,
-      front-next (map (code_bin mode2k) codes) a.bins.now at.bins at.k 0 _ (omega arith) (omega arith) at.invariant.3
+      front-next (map (code_bin mode2k) codes) a.bins.now at.bins at.k 0 _ (omega arith) (omega arith) at.invariant.0
           (sym (map_at (code_bin mode2k) codes at.k 0 0 (omega arith))),
-      set ∙ cell_next (map cell codes) a.values.now at.values at.k (cell 0) _ (omega arith) (omega arith) at.invariant.4 value,
+      set ∙ cell_next (map cell codes) a.values.now at.values at.k (cell 0) _ (omega arith) (omega arith) at.invariant.1 value,
     )
 
 pub returns : goal.returns
@@ -44,4 +40,8 @@ returns c =
     let codes = a.codes.now in
     let n : length (map (code_bin mode2k) codes) ≡ length codes = length-map codes (code_bin mode2k) in
     let q : length (map cell codes) ≡ length codes = length-map codes cell in
-    let w : length (flat (map cell codes)) ≡ 2 * length (map cell codes) = flat-length (map cell codes) in record { bins_after = front-whole (map (code_bin mode2k) codes) a.bins.now at.bins at.k (omega arith) at.invariant.3; values_after = front-whole (flat (map cell codes)) a.values.now at.values (2 * at.k) (omega arith) at.invariant.4 }
+    let w : length (flat (map cell codes)) ≡ 2 * length (map cell codes) = flat-length (map cell codes) in
+    record {
+      bins_after = front-whole (map (code_bin mode2k) codes) a.bins.now at.bins at.k (omega arith) at.invariant.0;
+      values_after = front-whole (flat (map cell codes)) a.values.now at.values (2 * at.k) (omega arith) at.invariant.1;
+    }

@@ -1,8 +1,7 @@
 -- `carriers::decode` meets its contract: after k turns the bins and the values of the first k numbers stand at the fronts. Assumes nothing.
 use mathlib.Core.Path.{◌≡◌}
 use mathlib.Core.List.{map}
-use Prim.Native.Nat.{◌*◌, ◌-◌, ◌≤◌}
-use lib.ListN.{length}
+use Prim.Native.Nat.{◌*◌}
 use Rattle.ground.proofs.Front.{front}
 use Rattle.carriers.specs.Mode.{mode2k}
 use Rattle.carriers.specs.Pilots.{code_bin, code_cells}
@@ -10,8 +9,4 @@ use Rattle.carriers.proofs.decode.Given as goal
 
 abbrev pub invariant-loop-k : goal.invariant-loop-k
 invariant-loop-k l =
-    (l.k ≤ length l.codes) × (length l.bins ≡ length l.initial.bins) × (length l.values ≡ length l.initial.values)
-    × (l.bins ≡ front (map (code_bin mode2k) l.codes) l.k l.initial.bins) × (l.values ≡ front (code_cells mode2k l.codes) (2 * l.k) l.initial.values)
-
-abbrev pub decreases-loop-k : goal.decreases-loop-k
-decreases-loop-k l = length l.codes - l.k
+    (l.bins ≡ front (map (code_bin mode2k) l.codes) l.k l.initial.bins) × (l.values ≡ front (code_cells mode2k l.codes) (2 * l.k) l.initial.values)

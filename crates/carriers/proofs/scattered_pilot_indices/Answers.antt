@@ -5,9 +5,9 @@ use mathlib.Core.List.{List, ◌++◌}
 use Prim.Native.Nat.{ℕ, ◌+◌, ◌-◌, ◌*◌, ◌/◌, ◌%◌, ◌≤◌}
 use native.Mathlib.Omega.{arith}
 use lib.ListN.{length, drop}
-use Rattle.ground.specs.Answer.{written}
+use lib.Seq.{length-take-le}
 use Rattle.carriers.specs.Mode.{mode2k}
-use Rattle.carriers.specs.Carriers.{scattered}
+use Rattle.carriers.specs.Carriers.{every_twelfth, scattered}
 use Rattle.carriers.proofs.Spaced.{scattered-apart, scattered-many}
 use Rattle.carriers.proofs.scattered_pilot_indices.Goals as goal
 
@@ -24,5 +24,5 @@ returns c =
     let n = (1704 - 3 * p) / 12 + 1 in
     let e : length (scattered mode2k p) ≡ n = scattered-many mode2k p (omega arith) (omega arith) in
     let room : n ≤ length o = omega arith in
-    let laid = c.every_twelfth.ensures ∙ ap (λ (l : List ℕ). written l o) (sym (scattered-apart mode2k p (omega arith) (omega arith))) in
-    record { value = simp (e, le-ltb _ _ room); out_after = simp (e, le-ltb _ _ room) (laid ∙ ap (λ (k : ℕ). scattered mode2k p ++ drop k o) e) }
+    let laid = c.every_twelfth.ensures ∙ ap (every_twelfth (3 * p)) (length-take-le n o room) ∙ sym (scattered-apart mode2k p (omega arith) (omega arith)) in
+    record { value = simp (e, le-ltb _ _ room); out_after = simp (e, le-ltb _ _ room) (ap (λ (l : List ℕ). l ++ drop n o) laid) }

@@ -1,13 +1,19 @@
--- `gray::axis_index` meets its contract: one, two or three bits write its answer. Assumes nothing.
+-- `gray::axis_index` meets its contract: a bit more is brought in a turn. Assumes nothing.
+use Prim.Native.Nat.{◌+◌, ◌*◌}
+use native.Mathlib.Numerals.{add-one}
 use native.Mathlib.Omega.{arith}
-use Rattle.gray.proofs.IndexBits.{index_1, index_2, index_3}
+use native.Mathlib.Nat.{pow-suc}
+use mathlib.Core.Path.{refl}
+use Rattle.ground.proofs.Bits.{bits_at}
+use Rattle.gray.proofs.IndexBits.{every_other_next}
 use Rattle.gray.proofs.axis_index.Goals as goal
 
-pub returns-then-count-eq1 : goal.returns-then-count-eq1
-returns-then-count-eq1 c = index_1 _ _ _ _ c.if-count-eq1.true c.bit-high.ensures
-
-pub returns-then-count-eq2 : goal.returns-then-count-eq2
-returns-then-count-eq2 c = index_2 _ _ _ _ _ c.if-count-eq2.true c.bit-high.ensures c.bit-middle.ensures
-
-pub returns : goal.returns
-returns c = index_3 _ _ _ _ _ _ (omega arith) c.bit-high.ensures c.bit-middle.ensures c.bit-low.ensures
+pub loop-place-preserved : goal.loop-place-preserved
+loop-place-preserved c =
+    let a = c.args in
+    let k = c.loop-place.place in
+    let bit = bits_at a.bits.now (a.first + 2 * k) c.requires.3 in
+    rw add-one (
+      omega (arith, every_other_next k 0 a.first (a.first + 2 * k) a.bits.now refl),
+      omega (arith, pow-suc 2 k),
+    )

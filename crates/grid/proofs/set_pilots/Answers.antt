@@ -1,10 +1,8 @@
 -- `grid::set_pilots` meets its contract: a turn is the next clause of the definition. Assumes nothing.
-use borrow.Author.Rules.{rules}
-use mathlib.Core.Path.{◌≡◌, sym, ap, ◌∙◌}
+use mathlib.Core.Path.{sym, ◌∙◌}
 use mathlib.Core.List.{map}
-use Prim.Native.Nat.{ℕ}
 use native.Mathlib.Omega.{arith}
-use lib.ListN.{length}
+use borrow.Author.Rules.{rules}
 use Rattle.ground.proofs.Mapped.{map_at}
 use Rattle.carriers.specs.Mode.{mode2k}
 use Rattle.carriers.specs.Pilots.{code_bin, code_cells}
@@ -12,27 +10,16 @@ use Rattle.grid.specs.Symbol.{placed}
 use Rattle.grid.proofs.Turns.{placed-next, code_cell_at}
 use Rattle.grid.proofs.set_pilots.Goals as goal
 
-pub loop-k-init : goal.loop-k-init
+pub loop-code-init : goal.loop-code-init
 unfolding placed
-loop-k-init c = search rules
+loop-code-init c = search rules
 
-pub loop-k-preserved : goal.loop-k-preserved
-loop-k-preserved c =
+pub loop-code-preserved : goal.loop-code-preserved
+loop-code-preserved c =
     let a = c.args in
-    let at = c.loop-k in
-    let codes = a.codes.now in (
-      search rules,
-      search rules,
-      c.put_cell.ensures
-          ∙ placed-next (map (code_bin mode2k) codes) (code_cells mode2k codes) at.k a.symbol.now at.symbol _ _ at.invariant.2
-          (sym (map_at (code_bin mode2k) codes at.k 0 0 (omega arith)))
-          (c.boost.ensures ∙ sym (code_cell_at mode2k codes at.k (omega arith))),
-    )
-
-pub returns : goal.returns
-returns c =
-    let a = c.args in
-    let at = c.loop-k in
+    let at = c.loop-code in
     let codes = a.codes.now in
-    let end : at.k ≡ length codes = omega arith in
-    at.invariant.2 ∙ ap (λ (k : ℕ). placed (map (code_bin mode2k) codes) (code_cells mode2k codes) k a.symbol.now) end
+    c.put_cell.ensures
+    ∙ placed-next (map (code_bin mode2k) codes) (code_cells mode2k codes) at.code-index a.symbol.now at.symbol _ _ at.invariant
+    (c.from-bin.ensures ∙ sym (map_at (code_bin mode2k) codes at.code-index 0 0 (omega arith)))
+    (c.boost-value.ensures ∙ sym (code_cell_at mode2k codes at.code-index (omega arith)))

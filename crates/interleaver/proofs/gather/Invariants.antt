@@ -1,13 +1,9 @@
 -- `interleaver::gather` meets its contract: a turn is one move more. Assumes nothing.
 use mathlib.Core.Path.{◌≡◌}
-use Prim.Native.Nat.{◌-◌, ◌≤◌}
 use lib.ListN.{length, get_or}
 use Rattle.interleaver.specs.Inner.{Moved}
 use Rattle.interleaver.proofs.gather.Given as goal
 
 abbrev pub invariant-loop-q : goal.invariant-loop-q
 invariant-loop-q l =
-    (l.q ≤ length l.places) × (length l.out ≡ length l.initial.out) × Moved (length l.places) (λ k. k) (λ k. get_or l.places k 0) l.q l.cells l.initial.out l.out
-
-abbrev pub decreases-loop-q : goal.decreases-loop-q
-decreases-loop-q l = length l.places - l.q
+    (length l.out ≡ length l.initial.out) × Moved (length l.places) (λ k. k) (λ k. get_or l.places k 0) l.q l.cells l.initial.out l.out

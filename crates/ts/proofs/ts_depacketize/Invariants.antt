@@ -1,19 +1,11 @@
 -- `ts::ts_depacketize` meets its contract: at each turn one payload more stands at the front of the output. Assumes nothing.
 use mathlib.Core.Path.{◌≡◌}
 use mathlib.Core.List.{List}
-use Prim.Native.Nat.{ℕ, ◌*◌, ◌-◌, ◌/◌, ◌≤◌}
-use lib.ListN.{length, drop}
+use Prim.Native.Nat.{ℕ, ◌*◌}
+use lib.ListN.{drop}
 use Rattle.ground.specs.Chunks.{chunks}
 use Rattle.ground.proofs.Front.{front}
 use Rattle.ts.proofs.ts_depacketize.Given as goal
 
 abbrev pub invariant-loop-i : goal.invariant-loop-i
-invariant-loop-i l =
-    (l.i ≤ l.n)
-    × (l.n ≡ length l.packets / 188)
-    × (187 * l.n ≤ length l.initial.out)
-    × (length l.out ≡ length l.initial.out)
-    × (l.out ≡ front (chunks (λ (j : ℕ) (p : List ℕ). drop 1 p) 188 l.n 0 l.packets) (187 * l.i) l.initial.out)
-
-abbrev pub decreases-loop-i : goal.decreases-loop-i
-decreases-loop-i l = l.n - l.i
+invariant-loop-i l = l.out ≡ front (chunks (λ (j : ℕ) (p : List ℕ). drop 1 p) 188 l.n 0 l.packets) (187 * l.i) l.initial.out

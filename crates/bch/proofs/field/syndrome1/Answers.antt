@@ -4,4 +4,4 @@ use Rattle.bch.proofs.field.syndrome1.Goals as goal
 
 pub returns : goal.returns
 unfolding syndrome1
-returns c = c.sum_at_x.ensures
+returns c = c.sum_at.ensures

@@ -7,10 +7,10 @@ use Rattle.bch.proofs.remainder.parity_of.Goals as goal
 pub returns : goal.returns
 returns c =
     let z = c in
-    c.folded_14.ensures
+    c.folded.ensures
     ∙ ap (fold_at 14 terms14)
-    (c.folded_14-fourth.ensures
+    (c.folded-fourth.ensures
     ∙ ap (fold_at 14 terms14)
-    (c.folded_22-third.ensures
-    ∙ ap (fold_at 22 terms22) (c.folded_33-second.ensures ∙ ap (fold_at 33 terms33) c.folded_33-first.ensures)))
+    (c.folded-third.ensures
+    ∙ ap (fold_at 22 terms22) (c.folded-second.ensures ∙ ap (fold_at 33 terms33) c.folded-first.ensures)))
     ∙ folds_are_parity z.args.info z.requires

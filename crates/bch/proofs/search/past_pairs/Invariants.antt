@@ -1,10 +1,12 @@
 -- `bch::search::past_pairs` meets its contract: two degrees that are no roots are passed a turn. Assumes nothing.
-use Prim.Native.Nat.{◌-◌, ◌^◌, ◌<◌}
+use Prim.Native.Nat.{◌-◌}
 use Rattle.bch.specs.Search.{Passed}
 use Rattle.bch.proofs.search.past_pairs.Given as goal
 
-abbrev pub invariant-loop-degree : goal.invariant-loop-degree
-invariant-loop-degree l = (l.p < 2 ^ 7) × (l.q < 2 ^ 7) × Passed l.c l.initial.p l.initial.q l.initial.degree l.p l.q l.degree
+abbrev pub invariant-loop-at : goal.invariant-loop-at
+invariant-loop-at l =
+    let from = l.fn.search in
+    Passed l.c.digits from.p.digits from.q.digits from.degree l.at.p.digits l.at.q.digits l.at.degree
 
-abbrev pub decreases-loop-degree : goal.decreases-loop-degree
-decreases-loop-degree l = 67 - l.degree
+abbrev pub decreases-loop-at : goal.decreases-loop-at
+decreases-loop-at l = 67 - l.at.degree

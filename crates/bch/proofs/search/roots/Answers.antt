@@ -1,50 +1,42 @@
 -- `bch::search::roots` meets its contract: the changed places are the roots of the locator. Assumes nothing.
-use mathlib.Core.Path.{sym, subst}
-use Prim.Native.Nat.{ℕ, ◌^◌, ◌<◌}
-use native.Mathlib.Omega.{arith}
-use Rattle.bch.proofs.Product.{mul-lt}
-use Rattle.bch.proofs.LocatorSearch.{terms_lt, next-lt}
+use mathlib.Core.Path.{sym, ◌∙◌, subst}
+use Prim.Native.Nat.{ℕ, ◌+◌}
+use borrow.Author.Tests.{eqb-true, eqb-false}
+use Rattle.std.specs.Prelude.{Option}
+use Rattle.bch.specs.declared.search.Found.{Found}
+use Rattle.bch.specs.Search.{NextRoot, NoRoot, Locates}
+use Rattle.bch.proofs.Roots.{syndromes_worked}
 use Rattle.bch.proofs.FoundPlaces.{no-root-no-pattern, one_root_located, two_roots_located, lone_root_no_pattern}
 use Rattle.bch.proofs.search.roots.Goals as goal
 
-pub next_root-one-requires : goal.next_root-one-requires
-next_root-one-requires c = (c.requires.0, subst (λ (q : ℕ). q < 2 ^ 7) (sym c.requires.1) (mul-lt _ _), omega arith)
+pub returns-in_err-one : goal.returns-in_err-one
+returns-in_err-one c =
+    λ s c' g.
+    let h = syndromes_worked g c.mul-square.ensures c.mul.ensures c.add-c.ensures in
+    subst (λ (f : Option Found). Locates s f) (sym c.from_residual.ensures) (no-root-no-pattern h c.mul-square.ensures c.in_err-one.ensures)
 
-pub returns-then-first-gt66 : goal.returns-then-first-gt66
-returns-then-first-gt66 c =
-    λ s s3 g. no-root-no-pattern g c.requires.1 c.next_root-one.ensures c.if-first-gt66.true
+pub returns-then-eq : goal.returns-then-eq
+returns-then-eq c =
+    λ s c' g.
+    let h = syndromes_worked g c.mul-square.ensures c.mul.ensures c.add-c.ensures in
+    one_root_located h c.mul-square.ensures c.in_ok-one.ensures (eqb-true c.add-c.result.digits 0 (sym c.eq.ensures ∙ c.if-eq.true))
 
-pub returns-then-c-eq0 : goal.returns-then-c-eq0
-returns-then-c-eq0 c =
-    λ s s3 g.
-    one_root_located g c.requires.1 c.next_root-one.ensures (omega (arith, c.if-first-gt66.false)) c.if-c-eq0.true
-
-pub times_x2-requires : goal.times_x2-requires
-times_x2-requires c =
-    let z = c.requires in
-    (terms_lt z.0 z.1 c.next_root-one.ensures.passed).0
-
-pub times_x-requires : goal.times_x-requires
-times_x-requires c =
-    let z = c.requires in
-    (terms_lt z.0 z.1 c.next_root-one.ensures.passed).1
-
-pub next_root-other-requires : goal.next_root-other-requires
-next_root-other-requires c =
-    let z = c.requires in
-    let t = terms_lt z.0 z.1 c.next_root-one.ensures.passed in
-    let l = next-lt t.0 t.1 c.times_x2.ensures c.times_x.ensures in
-    (l.0, l.1, omega (arith, c.if-first-gt66.false))
-
-pub returns-then-second-le66 : goal.returns-then-second-le66
-returns-then-second-le66 c =
-    λ s s3 g.
-    two_roots_located g c.requires.1 c.next_root-one.ensures (omega (arith, c.if-first-gt66.false))
-    c.times_x2.ensures c.times_x.ensures c.next_root-other.ensures (omega (arith, c.if-second-le66.true))
+pub returns-in_err-other : goal.returns-in_err-other
+returns-in_err-other c =
+    λ s c' g.
+    let h = syndromes_worked g c.mul-square.ensures c.mul.ensures c.add-c.ensures in
+    let o = c.on.ensures in
+    let k = c.add-c.result.digits in
+    let n : NoRoot k c.on.result.p.digits c.on.result.q.digits (c.in_ok-one.one.degree + 1) =
+    subst (λ (d : ℕ). NoRoot k c.on.result.p.digits c.on.result.q.digits d) o.degree c.in_err-other.ensures in
+    subst (λ (f : Option Found). Locates s f) (sym c.from_residual-in_err-other.ensures)
+    (lone_root_no_pattern h c.mul-square.ensures c.in_ok-one.ensures o.first o.second n (eqb-false k 0 (sym c.eq.ensures ∙ c.if-eq.false)))
 
 pub returns : goal.returns
 returns c =
-    λ s s3 g.
-    lone_root_no_pattern g c.requires.1 c.next_root-one.ensures (omega (arith, c.if-first-gt66.false))
-    c.times_x2.ensures c.times_x.ensures c.next_root-other.ensures (omega (arith, c.if-second-le66.false))
-    c.if-c-eq0.false
+    λ s c' g.
+    let h = syndromes_worked g c.mul-square.ensures c.mul.ensures c.add-c.ensures in
+    let o = c.on.ensures in
+    let t = c.in_ok-other.other in
+    two_roots_located h c.mul-square.ensures c.in_ok-one.ensures o.first o.second
+    (subst (λ (d : ℕ). NextRoot c.add-c.result.digits c.on.result.p.digits c.on.result.q.digits d t.p.digits t.q.digits t.degree) o.degree c.in_ok-other.ensures)

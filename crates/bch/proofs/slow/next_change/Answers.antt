@@ -1,33 +1,24 @@
 -- `bch::slow::next_change` meets its contract: the places that the loop has passed make no codeword. Assumes nothing.
-use mathlib.Core.Path.{sym, ap, ◌∙◌, subst}
-use mathlib.Core.List.{List}
-use Prim.Native.Nat.{ℕ}
+use mathlib.Core.Path.{sym, ap, ◌∙◌}
 use native.Mathlib.Omega.{arith}
-use Rattle.ground.specs.Bits.{Bits}
 use Rattle.bch.specs.NearCodeword.{is_codeword}
-use Rattle.bch.proofs.Flipped.{flip_bits}
-use Rattle.bch.proofs.TriedChanges.{past-none, past_one, change_makes, no_change_left}
+use Rattle.bch.proofs.TriedChanges.{flipped_lent, past_one, change_makes}
 use Rattle.bch.proofs.slow.next_change.Goals as goal
 
-pub loop-place-init : goal.loop-place-init
-loop-place-init c = past-none c.args.word c.args.from c.requires.1
-
-pub parity_checks-requires : goal.parity_checks-requires
-parity_checks-requires c =
-    let z = c in
-    subst (λ (l : List ℕ). Bits l) (sym c.changed.ensures) (flip_bits z.args.word c.loop-place.place z.requires.0)
+pub invariant_of-parity_checks : goal.invariant_of-parity_checks
+invariant_of-parity_checks c =
+    let a = c.args.code in
+    let h = flipped_lent a.bits.now c.changed-next.result c.loop-place.place a.size a.right c.changed-next.ensures in
+    record { size = h.0; right = h.1 }
 
 pub returns-then-parity_checks : goal.returns-then-parity_checks
 returns-then-parity_checks c =
-    let l = c in
-    change_makes l.args.word l.args.from l.loop-place.place l.loop-place.invariant (sym (c.parity_checks.ensures ∙ ap is_codeword c.changed.ensures) ∙ c.if-parity_checks.true)
+    let l = c.loop-place in
+    change_makes c.args.code.bits.now c.args.from l.place l.invariant (omega arith)
+    (sym (c.parity_checks.ensures ∙ ap is_codeword c.changed-next.ensures) ∙ c.if-parity_checks.true)
 
 pub loop-place-preserved : goal.loop-place-preserved
 loop-place-preserved c =
-    let l = c in
-    past_one l.args.word l.args.from l.loop-place.place l.loop-place.invariant (omega arith) (sym (c.parity_checks.ensures ∙ ap is_codeword c.changed.ensures) ∙ c.if-parity_checks.false)
-
-pub returns : goal.returns
-returns c =
-    let l = c in
-    no_change_left l.args.word l.args.from l.loop-place.place l.loop-place.invariant (omega arith)
+    let l = c.loop-place in
+    past_one c.args.code.bits.now c.args.from l.place l.invariant (omega arith)
+    (sym (c.parity_checks.ensures ∙ ap is_codeword c.changed-next.ensures) ∙ c.if-parity_checks.false)

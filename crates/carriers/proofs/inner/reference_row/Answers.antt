@@ -1,21 +1,22 @@
--- `carriers::inner::reference_row` meets its contract: in each phase its own row. Assumes nothing.
+-- `carriers::inner::reference_row` meets its contract: the test over each whole row, which antt computes, against the walk. Assumes nothing.
 use mathlib.Core.List.{map}
-use Prim.Native.Nat.{ℕ}
+use Prim.Native.Nat.{ℕ, ◌%◌}
 use native.Mathlib.Omega.{arith}
-use Rattle.carriers.specs.Mode.{mode2k}
-use Rattle.carriers.specs.Carriers.{reference_actives}
+use Rattle.carriers.specs.Mode.{mode2k, continual2k, tps2k}
+use Rattle.carriers.specs.Count.{bin_of}
+use Rattle.carriers.specs.Sequence.{step}
+use Rattle.carriers.specs.Carriers.{every_twelfth, reference_actives}
+use Rattle.carriers.specs.Reserved.{without}
 use Rattle.carriers.specs.Pilots.{coded}
-use Rattle.carriers.proofs.Phases.{in_phase}
+use Rattle.carriers.proofs.Made.{join}
+use Rattle.carriers.proofs.Facts.{joined, tested, facts2k}
+use Rattle.carriers.proofs.Walk.{walk, reference_coded}
+use Rattle.carriers.proofs.Phases.{in_rows}
 use Rattle.carriers.proofs.inner.reference_row.Goals as goal
 
-pub returns-then-q-eq0 : goal.returns-then-q-eq0
-returns-then-q-eq0 c = in_phase (λ (q : ℕ). map (coded mode2k) (reference_actives mode2k q)) _ 0 _ c.if-q-eq0.true c.reference_row_0.ensures
-
-pub returns-then-q-eq1 : goal.returns-then-q-eq1
-returns-then-q-eq1 c = in_phase (λ (q : ℕ). map (coded mode2k) (reference_actives mode2k q)) _ 1 _ c.if-q-eq1.true c.reference_row_1.ensures
-
-pub returns-then-q-eq2 : goal.returns-then-q-eq2
-returns-then-q-eq2 c = in_phase (λ (q : ℕ). map (coded mode2k) (reference_actives mode2k q)) _ 2 _ c.if-q-eq2.true c.reference_row_2.ensures
-
 pub returns : goal.returns
-returns c = in_phase (λ (q : ℕ). map (coded mode2k) (reference_actives mode2k q)) _ 3 _ (omega arith) c.reference_row_3.ensures
+unfolding continual2k tps2k bin_of step every_twelfth without join joined tested facts2k walk
+returns c =
+    in_rows (λ (q : ℕ). map (coded mode2k) (reference_actives mode2k q)) _ _ _ _ _ (reference_coded mode2k facts2k 0 (omega arith))
+    (reference_coded mode2k facts2k 1 (omega arith)) (reference_coded mode2k facts2k 2 (omega arith))
+    (reference_coded mode2k facts2k 3 (omega arith)) (c.args.phase % 4) (omega arith)

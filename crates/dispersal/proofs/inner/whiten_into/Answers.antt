@@ -1,7 +1,7 @@
 -- `dispersal::inner::whiten_into` meets its contract: the slice is filled from its front with the whitened bytes. Assumes nothing.
 use mathlib.Core.Path.{◌≡◌, sym}
 use native.Mathlib.Omega.{arith}
-use lib.ListN.{length, length-set}
+use lib.ListN.{length}
 use Rattle.ground.proofs.Front.{front-next, front-full}
 use Rattle.dispersal.specs.Inner.{xored}
 use Rattle.dispersal.proofs.Whitening.{xored-length, xored-at}
@@ -14,7 +14,7 @@ loop-i-preserved c =
     let b = a.bytes.now in
     let m = a.outputs.now in
     let z : length (xored b m) ≡ length b = xored-length b m in
-    (omega arith, simp length-set l.invariant.1, front-next (xored b m) a.out.now l.out l.i 0 _ (omega arith) (omega arith) l.invariant.2 (sym (xored-at b m l.i (omega arith) (omega arith))))
+    front-next (xored b m) a.out.now l.out l.i 0 _ (omega arith) (omega arith) l.invariant (sym (xored-at b m l.i (omega arith) (omega arith)))
 
 pub returns : goal.returns
 returns c =
@@ -23,4 +23,4 @@ returns c =
     let b = a.bytes.now in
     let m = a.outputs.now in
     let z : length (xored b m) ≡ length b = xored-length b m in
-    front-full (xored b m) a.out.now l.out l.i (omega arith) (omega arith) l.invariant.2
+    front-full (xored b m) a.out.now l.out l.i (omega arith) (omega arith) l.invariant

@@ -1,13 +1,8 @@
 -- `dispersal::inner::whiten_into` meets its contract: the slice is filled from its front with the whitened bytes. Assumes nothing.
 use mathlib.Core.Path.{◌≡◌}
-use Prim.Native.Nat.{◌-◌, ◌≤◌}
-use lib.ListN.{length}
 use Rattle.ground.proofs.Front.{front}
 use Rattle.dispersal.specs.Inner.{xored}
 use Rattle.dispersal.proofs.inner.whiten_into.Given as goal
 
 abbrev pub invariant-loop-i : goal.invariant-loop-i
-invariant-loop-i l = (l.i ≤ length l.initial.out) × (length l.out ≡ length l.initial.out) × (l.out ≡ front (xored l.bytes l.outputs) l.i l.initial.out)
-
-abbrev pub decreases-loop-i : goal.decreases-loop-i
-decreases-loop-i l = length l.initial.out - l.i
+invariant-loop-i l = l.out ≡ front (xored l.bytes l.outputs) l.i l.initial.out

@@ -1,6 +1,5 @@
 -- `grid::inner::gather` meets its contract: after k turns the cells at the first k bins stand at the front. Assumes nothing.
-use borrow.Author.Rules.{rules}
-use mathlib.Core.Path.{◌≡◌, sym, ◌∙◌}
+use mathlib.Core.Path.{◌≡◌, sym, ap, ◌∙◌}
 use mathlib.Core.List.{map}
 use Prim.Native.Nat.{◌*◌}
 use native.Mathlib.Omega.{arith}
@@ -11,12 +10,6 @@ use Rattle.ground.proofs.Cells.{cell_next, flat-length}
 use Rattle.grid.specs.Symbol.{cells_at}
 use Rattle.grid.proofs.inner.gather.Goals as goal
 
-pub overflow_cast-b : goal.overflow_cast-b
-overflow_cast-b c = record { fits = omega (arith, c.requires.0 c.loop-k.k (omega arith)) }
-
-pub cell_at-requires : goal.cell_at-requires
-cell_at-requires c = omega (arith, c.requires.0 c.loop-k.k (omega arith))
-
 pub loop-k-preserved : goal.loop-k-preserved
 unfolding cells_at
 loop-k-preserved c =
@@ -25,12 +18,9 @@ loop-k-preserved c =
     let bins = a.bins.now in
     let s = a.symbol.now in
     let n : length (map (cell_at s) bins) ≡ length bins = length-map bins (cell_at s) in
-    let cell = c.cell_at.ensures ∙ sym (get_or-map (cell_at s) bins at.k 0) in (
-      search rules,
-      search rules,
-      c.put_cell.ensures
-          ∙ cell_next (map (cell_at s) bins) a.out.now at.out at.k (cell_at s 0) _ (omega arith) (omega arith) at.invariant.2 cell,
-    )
+    let cell = c.cell_at.ensures ∙ ap (cell_at s) c.from.ensures ∙ sym (get_or-map (cell_at s) bins at.k 0) in
+    c.put_cell.ensures
+    ∙ cell_next (map (cell_at s) bins) a.out.now at.out at.k (cell_at s 0) _ (omega arith) (omega arith) at.invariant cell
 
 pub returns : goal.returns
 unfolding cells_at
@@ -40,4 +30,4 @@ returns c =
     let cells = map (cell_at a.symbol.now) a.bins.now in
     let n : length cells ≡ length a.bins.now = length-map a.bins.now (cell_at a.symbol.now) in
     let w : length (flat cells) ≡ 2 * length cells = flat-length cells in
-    front-whole (flat cells) a.out.now at.out (2 * at.k) (omega arith) at.invariant.2
+    front-whole (flat cells) a.out.now at.out (2 * at.k) (omega arith) at.invariant

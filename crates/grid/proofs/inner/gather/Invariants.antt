@@ -1,13 +1,9 @@
 -- `grid::inner::gather` meets its contract: after k turns the cells at the first k bins stand at the front. Assumes nothing.
 use mathlib.Core.Path.{◌≡◌}
-use Prim.Native.Nat.{◌*◌, ◌-◌, ◌≤◌}
-use lib.ListN.{length}
+use Prim.Native.Nat.{◌*◌}
 use Rattle.ground.proofs.Front.{front}
 use Rattle.grid.specs.Symbol.{cells_at}
 use Rattle.grid.proofs.inner.gather.Given as goal
 
 abbrev pub invariant-loop-k : goal.invariant-loop-k
-invariant-loop-k l = (l.k ≤ length l.bins) × (length l.out ≡ length l.initial.out) × (l.out ≡ front (cells_at l.symbol l.bins) (2 * l.k) l.initial.out)
-
-abbrev pub decreases-loop-k : goal.decreases-loop-k
-decreases-loop-k l = length l.bins - l.k
+invariant-loop-k l = l.out ≡ front (cells_at l.symbol l.bins) (2 * l.k) l.initial.out

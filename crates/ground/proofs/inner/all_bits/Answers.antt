@@ -3,11 +3,11 @@ use native.Mathlib.Omega.{arith}
 use Rattle.ground.proofs.Bits.{seen_next, seen_end}
 use Rattle.ground.proofs.inner.all_bits.Goals as goal
 
-pub loop-i-preserved : goal.loop-i-preserved
-loop-i-preserved c =
-    let l = c.loop-i in
-    (omega arith, seen_next c.args.bits.now l.i l.seen c.loop-i-test.true l.invariant.1)
+pub loop-bit-preserved : goal.loop-bit-preserved
+loop-bit-preserved c =
+    let l = c.loop-bit in
+    (omega arith, seen_next c.args.bits.now l.bit-index l.seen c.loop-bit-test.true l.invariant.1)
 
 pub returns : goal.returns
 returns c =
-    let l = c.loop-i in seen_end c.args.bits.now l.i l.seen c.loop-i-test.false l.invariant.1
+    let l = c.loop-bit in seen_end c.args.bits.now l.bit-index l.seen c.loop-bit-test.false l.invariant.1

@@ -23,8 +23,7 @@ loop-i-preserved c =
     let le : length e ≡ n = digits_length n v in
     let t = c.loop-i-test.true in
     let lo : length l.out ≡ n = l.invariant.1 in
-    let d = front-next e o l.out l.i 0 (v / 2 ^ (length l.out - 1 - l.i) % 2) (omega arith) (omega arith) l.invariant.2
-    (ap (λ k. v / 2 ^ (k - 1 - l.i) % 2) lo ∙ sym (digits_at n v l.i (omega arith))) in
+    let d = front-next e o l.out l.i 0 (v / 2 ^ (n - 1 - l.i) % 2) (omega arith) (omega arith) l.invariant.2 (sym (digits_at n v l.i (omega arith))) in
     (omega arith, ap length d ∙ front_length e o (l.i + 1) (omega arith) (omega arith), d)
 
 pub returns : goal.returns

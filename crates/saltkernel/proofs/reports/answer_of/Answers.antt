@@ -1,17 +1,13 @@
--- `saltkernel::reports::answer_of` meets its contract: the tests are those of the definition. Assumes nothing.
-use mathlib.Core.Path.{sym, ◌∙◌}
-use borrow.Author.Tests.{eq-eqb, ne_eqb}
+-- `saltkernel::reports::answer_of` meets its contract: a word that codes don't say is RESERVED. Assumes nothing.
+use Rattle.std.proofs.Common.{◌≡◌, Err, sym, ap, ◌∙◌, eq-eqb}
+use Rattle.std.proofs.lemmas.Result.{err_from_is_err_and}
+use Rattle.tps.proofs.Codes.{word_refused}
+use Rattle.saltkernel.specs.Words.{word_in}
 use Rattle.saltkernel.proofs.reports.answer_of.Goals as goal
 
-pub returns-then-answer-ne0 : goal.returns-then-answer-ne0
-returns-then-answer-ne0 c = simp (ne_eqb _ _ c.if-answer-ne0.true)
-
-pub returns-in_default : goal.returns-in_default
-returns-in_default c =
-    let w = c in
-    simp (eq-eqb _ 0 w.if-answer-ne0.false, sym w.word_of.ensures ∙ c.in_default.is)
-
-pub returns : goal.returns
-returns c =
-    let w = c in
-    simp (eq-eqb _ 0 w.if-answer-ne0.false, sym w.word_of.ensures ∙ c.in-Known.is)
+pub returns-in_err-word : goal.returns-in_err-word
+returns-in_err-word c =
+    let p = err_from_is_err_and c.from_residual.result c.from_residual.ensures.1 in
+    let r = c.in_err-word.field-0.0 in
+    let e : word_in c.args.answer.word ≡ Err r = sym c.try_from.ensures ∙ c.in_err-word.was in
+    rw (p.1, p.2) (simp (eq-eqb _ 0 c.if-answer-ne0.false, e) (ap Err (word_refused _ r e)))

@@ -1,23 +1,23 @@
--- `session::halves::replay` meets its contract: after i turns the TPS decoder was fed the first i places. Assumes nothing.
-use mathlib.Core.Path.{◌≡◌, ap, ◌∙◌}
-use Prim.Native.Nat.{ℕ}
-use native.Mathlib.Omega.{arith}
+-- `session::halves::replay` meets its contract: after n chunks the TPS decoder was fed the first n places, and what is left begins behind these.
+-- Assumes nothing.
+use mathlib.Core.Path.{◌≡◌, ◌∙◌}
+use mathlib.Core.List.{◌∷◌, [], ◌++◌}
+use Prim.Native.Nat.{suc}
+use lib.ListN.{length, length-append}
+use Rattle.std.proofs.Common.{rules, arith}
 use Rattle.carriers.specs.Mode.{mode2k}
 use Rattle.session.specs.Journal.{places_in, decoder_on}
 use Rattle.session.proofs.Decoder.{replay_turn}
 use Rattle.session.proofs.halves.replay.Goals as goal
 
-pub loop-i-init : goal.loop-i-init
+pub loop-cells-init : goal.loop-cells-init
 unfolding decoder_on places_in
-loop-i-init c = (omega arith, c.new-decoder.ensures)
+loop-cells-init c = record { size = search rules; rest = search rules; fed = c.new-decoder.ensures }
 
-pub loop-i-preserved : goal.loop-i-preserved
-loop-i-preserved c =
-    let l = c.loop-i in
-    (omega arith, replay_turn mode2k c.args.frame.now l.i l.invariant.1 c.feed_symbol-fed.ensures)
-
-pub returns : goal.returns
-returns c =
-    let l = c.loop-i in
-    let e : l.i ≡ 68 = omega arith in
-    l.invariant.1 ∙ ap (λ (n : ℕ). decoder_on mode2k (places_in mode2k n c.args.frame.now)) e
+pub loop-cells-preserved : goal.loop-cells-preserved
+loop-cells-preserved c =
+    let step = c.in-Some.ensures.steps.0 in
+    let i = c.loop-cells.invariant in
+    let n : length (c.loop-cells.yielded ++ (c.in-Some.cells ∷ [])) ≡ suc (length c.loop-cells.yielded) = grind (arith, length-append) in
+    let turn = replay_turn mode2k c.args.frame.now (length c.loop-cells.yielded) _ _ i.rest step.1.0 (step.1.1 ∙ i.size) i.fed c.feed_symbol.ensures in
+    rw n (record { size = step.0 ∙ i.size; rest = turn.0; fed = turn.1 })

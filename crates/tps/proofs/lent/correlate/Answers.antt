@@ -1,6 +1,6 @@
 -- `tps::lent::correlate` meets its contract: a turn of the loop is a clause of the definition. Assumes nothing.
 use mathlib.Core.Path.{◌≡◌, sym, ap, ◌∙◌}
-use Prim.Native.Nat.{ℕ, ◌<◌}
+use Prim.Native.Nat.{ℕ}
 use native.Mathlib.Numerals.{add-one}
 use native.Mathlib.Omega.{arith}
 use Rattle.ground.specs.Cells.{plus_zero}
@@ -20,13 +20,10 @@ loop-k-preserved c =
     let z = c.args in
     let a = c.cell_at-a in
     let b = c.cell_at-b in
-    let h : l.k < 17 = omega (arith, c.loop-k-test.true) in (
-      search rules,
-      rw (add-one l.k, l.invariant.1, a.ensures ∙ sym (cells_at_lem 17 z.cells.now l.k no_cell h), b.ensures ∙ sym (cells_at_lem 17 z.prev.now l.k no_cell h)),
-    )
+    rw (add-one l.k, l.invariant, a.ensures ∙ sym (cells_at_lem 17 z.cells.now l.k no_cell (omega arith)), b.ensures ∙ sym (cells_at_lem 17 z.prev.now l.k no_cell (omega arith)))
 
 pub returns : goal.returns
 returns c =
     let z = c.args in
     let e : c.loop-k.k ≡ 17 = omega arith in
-    c.loop-k.invariant.1 ∙ ap (λ (k : ℕ). correlation k (first_cells 17 z.cells.now) (first_cells 17 z.prev.now)) e
+    c.loop-k.invariant ∙ ap (λ (k : ℕ). correlation k (first_cells 17 z.cells.now) (first_cells 17 z.prev.now)) e

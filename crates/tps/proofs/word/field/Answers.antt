@@ -20,6 +20,3 @@ overflow_cast-result c =
     let z = c in
     let p = z.requires in
     record { fits = field_below z.args.information.now z.args.from z.args.to c.packed.result p.0 p.1 p.2 p.3 p.4 c.packed.ensures }
-
-pub returns : goal.returns
-returns c = c.packed.ensures

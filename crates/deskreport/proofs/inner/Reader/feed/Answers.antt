@@ -1,14 +1,13 @@
--- `deskreport::inner::Reader::feed` meets its contract: the part is taken where the output has the room. Assumes
+-- `deskreport::inner::Reader::feed` meets its contract: the texts stand at the front of an output with room. Assumes
 -- nothing.
-use Rattle.std.proofs.Common.{arith}
-use Rattle.deskreport.proofs.Calls.{part-refused, part-written}
+use Rattle.std.proofs.Common.{arith, rules}
+use Rattle.report.specs.Calls.{part_room}
+use Rattle.report.proofs.Calls.{text-left}
+use Rattle.deskreport.specs.Stream.{feed_text}
 use Rattle.deskreport.proofs.inner.Reader.feed.Goals as goal
 
-pub returns-then-out-part : goal.returns-then-out-part
-returns-then-out-part c =
-    let s = c.args in let both = part-refused s.self s.part.now s.out.now (omega arith) in record { answer = both.0; output = both.1 }
-
-pub returns : goal.returns
-returns c =
-    let t = c.put_part-end in
-    let s = c.args in let both = part-written s.self s.part.now s.out.now t.result t.new.out (omega arith) t.ensures in record { answer = both.0; output = both.1 }
+pub returns-clause-output : goal.returns-clause-output
+returns-clause-output c =
+    let part = c.args.part.now in
+    let p = c.put_part-line.ensures in
+    text-left (part_room part) (feed_text c.args.self part) c.args.out.now (omega arith) c.new-text.ensures.empty p.written p.room (search rules)

@@ -1,7 +1,0 @@
--- `saltkernel::constellation::salt_dvb_t_demap_symbol` meets its contract: the numbers say what the library function answers. Assumes nothing.
-use Rattle.saltkernel.specs.Numbers.{Says}
-use Rattle.saltkernel.proofs.Numbers.{says_equal}
-use Rattle.saltkernel.proofs.constellation.salt_dvb_t_demap_symbol.Goals as goal
-
-pub returns : goal.returns
-returns c = let f = c.dvb_t_demap_symbol in record { answer = says_equal Says c.numbers_of.result f.result _ f.ensures.answer c.numbers_of.ensures; output = f.ensures.output }

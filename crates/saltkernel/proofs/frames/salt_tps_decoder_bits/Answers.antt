@@ -1,8 +1,0 @@
--- `saltkernel::frames::salt_tps_decoder_bits` meets its contract: the numbers say what the library function answers.
--- Assumes nothing.
-use Rattle.saltkernel.specs.Numbers.{Says}
-use Rattle.saltkernel.proofs.Numbers.{says_equal}
-use Rattle.saltkernel.proofs.frames.salt_tps_decoder_bits.Goals as goal
-
-pub returns : goal.returns
-returns c = let f = c.bits in record { answer = says_equal Says c.numbers_of.result f.result _ f.ensures.answer c.numbers_of.ensures; output = f.ensures.output }

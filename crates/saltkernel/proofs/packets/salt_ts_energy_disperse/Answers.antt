@@ -1,7 +1,0 @@
--- `saltkernel::packets::salt_ts_energy_disperse` meets its contract: the numbers say what the library function answers. Assumes nothing.
-use Rattle.saltkernel.specs.Numbers.{Says}
-use Rattle.saltkernel.proofs.Numbers.{says_equal}
-use Rattle.saltkernel.proofs.packets.salt_ts_energy_disperse.Goals as goal
-
-pub returns : goal.returns
-returns c = let f = c.ts_energy_disperse in record { answer = says_equal Says c.numbers_of.result f.result _ f.ensures.answer c.numbers_of.ensures; buffer = f.ensures.buffer }

@@ -1,7 +1,0 @@
--- `saltkernel::pilots::salt_scattered_pilot_indices` meets its contract: the numbers say what the library function answers. Assumes nothing.
-use Rattle.saltkernel.specs.Numbers.{Says}
-use Rattle.saltkernel.proofs.Numbers.{says_equal}
-use Rattle.saltkernel.proofs.pilots.salt_scattered_pilot_indices.Goals as goal
-
-pub returns : goal.returns
-returns c = let f = c.scattered_pilot_indices in record { answer = says_equal Says c.numbers_of.result f.result _ f.ensures.value c.numbers_of.ensures; output = f.ensures.out_after }

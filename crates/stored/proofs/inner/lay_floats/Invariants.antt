@@ -1,9 +1,0 @@
--- `stored::inner::lay_floats`: the place is within the bytes to lay. Assumes nothing.
-use Rattle.std.proofs.Common.{◌-◌, ◌≤◌}
-use Rattle.stored.proofs.inner.lay_floats.Given as goal
-
-abbrev pub invariant-loop-i : goal.invariant-loop-i
-invariant-loop-i l = l.i ≤ l.n
-
-abbrev pub decreases-loop-i : goal.decreases-loop-i
-decreases-loop-i l = l.n - l.i

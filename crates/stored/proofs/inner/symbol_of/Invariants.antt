@@ -1,9 +1,0 @@
--- `stored::inner::symbol_of`: the place is within the symbol. Assumes nothing.
-use Rattle.std.proofs.Common.{◌-◌, ◌≤◌}
-use Rattle.stored.proofs.inner.symbol_of.Given as goal
-
-abbrev pub invariant-loop-i : goal.invariant-loop-i
-invariant-loop-i l = l.i ≤ 4096
-
-abbrev pub decreases-loop-i : goal.decreases-loop-i
-decreases-loop-i l = 4096 - l.i
