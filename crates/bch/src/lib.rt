@@ -22,7 +22,7 @@ mod slow;
 pub const NO_PLACE: u8 = 255;
 
 // The bits of a codeword that were changed: how many, 0 to 2, and their places, 0 to 66 and rising, or NO_PLACE.
-// It stays three numbers: `report::put_line` takes one with any count from C, and `mended_at` and `mended_in` name them.
+// It stays three numbers: `report::put_line` takes one with any count from C; `mended_at` and `mended_in` name them.
 #[derive(Clone, Copy, Debug, PartialEq, Eq)]
 pub struct Mended {
     pub count: u8,
@@ -110,8 +110,8 @@ impl From<Found> for Mended {
 }
 
 impl Decoder {
-    // The changed places of 67 bits, where a codeword is within distance two. Which decoder runs is a value, since C and
-    // tpsreport choose it as they run; a closure would be asked for both promises at each call.
+    // The changed places of 67 bits, where a codeword is within distance two. Which decoder runs is a value, since C
+    // and tpsreport choose it as they run; a closure would be asked for both promises at each call.
     fn changes(self, code: Lent<67>) -> Option<Found>
         ensures { Changes code.entry.bits.now result }
     {

@@ -1,5 +1,6 @@
 -- What the private functions hand to each other. No public promise cites this file.
-use Rattle.std.specs.Prelude.{ℕ, ◌*◌, ◌<◌, false, not, cond, List, [], ◌∷◌, T, Float, Result, ◌+◌, ◌/◌, ◌%◌, ◌^◌}
+use Rattle.std.specs.Prelude.{ℕ, ◌*◌, ◌<◌, ◌+◌, ◌/◌, ◌%◌, ◌^◌}
+use Rattle.std.specs.Prelude.{false, not, cond, List, [], ◌∷◌, T, Float, Result}
 use Rattle.std.specs.Float.{inf}
 use Rattle.std.specs.Float.Ieee.{lt}
 use Rattle.ground.specs.declared.Cell.{Cell}

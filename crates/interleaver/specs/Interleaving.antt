@@ -1,6 +1,7 @@
 -- Document 02, E6; EN 300 744, 4.3.4.2: the cells of a symbol in their coded order and in the order in which they are
 -- sent. Even symbols: cell q is sent at place H(q). Odd symbols: at place q cell H(q) is sent. A cell is two f32.
-use Rattle.std.specs.Prelude.{◌≡◌, List, [], ◌∷◌, ℕ, zero, suc, ◌*◌, ◌%◌, ◌<◌, Float, length, drop, Option, Result}
+use Rattle.std.specs.Prelude.{◌≡◌, List, [], ◌∷◌, ℕ, zero, suc, ◌*◌, ◌%◌, ◌<◌}
+use Rattle.std.specs.Prelude.{Float, length, drop, Option, Result}
 use Rattle.ground.specs.Answer.{counted, kept, short}
 use Rattle.ground.specs.Cells.{cell_at}
 use Rattle.ground.specs.Refusal.{LENGTH, OUTPUT_SHORT, ◌gives◌, first_of}

@@ -1,5 +1,6 @@
 -- What the private helpers promise. No public promise cites this file.
-use Rattle.std.specs.Prelude.{◌==◌, ◌&&◌, cond, Result, Ok, Err, ◌≡◌, ℕ, ◌+◌, ◌≤◌, List, ◌∷◌, ◌++◌, length}
+use Rattle.std.specs.Prelude.{◌==◌, ◌&&◌, ◌≡◌, ℕ, ◌+◌, ◌≤◌, List, ◌∷◌, ◌++◌}
+use Rattle.std.specs.Prelude.{cond, Result, Ok, Err, length}
 use Rattle.std.proofs.lemmas.List.Edits.{sets}
 use Rattle.ground.specs.declared.Refusal.{Refusal}
 use Rattle.ground.specs.declared.Refusal.TheVariants.{BadLine}

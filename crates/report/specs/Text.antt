@@ -1,5 +1,6 @@
 -- Document 01, 'Report program', and document 02, E1: the text of a line, of the heading and of the closing line.
-use Rattle.std.specs.Prelude.{ℕ, zero, suc, ◌+◌, ◌-◌, ◌/◌, ◌%◌, cond, List, [], ◌∷◌, ◌++◌, nat_lt, Result, Ok, Err}
+use Rattle.std.specs.Prelude.{ℕ, zero, suc, ◌+◌, ◌-◌, ◌/◌, ◌%◌, ◌∷◌, ◌++◌}
+use Rattle.std.specs.Prelude.{cond, List, [], nat_lt, Result, Ok, Err}
 use Prim.Native.Char.{code}
 use Rattle.ground.specs.declared.ConstellationOrder.{ConstellationOrder}
 use Rattle.ground.specs.declared.ConstellationOrder.TheVariants.{Qpsk, Qam16, Qam64}

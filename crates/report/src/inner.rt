@@ -18,8 +18,9 @@ pub struct Text<'a> {
     len: usize,
 }
 
-// The columns and digits below are bytes and no `Display`: `write!` promises what it wrote of a `String` alone, which is
-// on the heap. Each method of a text asks for its own room and says how much it took, since callers add up the numbers.
+// The columns and digits below are bytes and no `Display`: `write!` promises what it wrote of a `String` alone, which
+// is on the heap. Each method of a text asks for its own room and says how much it took, since callers add up these
+// numbers.
 
 // A space and the column of a constellation.
 #[tactic(auto, unfolding(crate::specs::Text::points_text))]

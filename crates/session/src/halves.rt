@@ -1,7 +1,7 @@
 // The journal's two halves: frame c stands in half c mod 2, with a place for the TPS cells of each symbol.
 // That a journal is long enough stays a clause of the four functions that go into one: as an array that is lent in the
-// slice's front it took lemmas on what stands behind and five answers more, and no function got shorter. A place's frame
-// and number go as two parameters: a type of both would be made for one call each.
+// slice's front it took lemmas on what stands behind and five answers more, and no function got shorter. A place's
+// frame and number go as two parameters: a type of both would be made for one call each.
 ghost use Rattle.std.specs.Prelude.{◌≡◌, ◌≤◌, ◌<◌, ◌*◌, min, length};
 ghost use Rattle.carriers.specs.Mode.{mode2k, symbol_size};
 ghost use Rattle.tps.specs.Word.{SYMBOLS};

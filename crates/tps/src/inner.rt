@@ -111,8 +111,8 @@ pub fn standing_count(count: usize) -> usize
     count.min(TPS_SYMBOLS_PER_FRAME)
 }
 
-// The first cells of a slice, one for each TPS carrier. That the slice is long enough stays a clause here and at two more
-// functions: as an array by `first_chunk` (tried) each caller owes a law on what stands in front.
+// The first cells of a slice, one for each TPS carrier. That the slice is long enough stays a clause here and at two
+// more functions: as an array by `first_chunk` (tried) each caller owes a law on what stands in front.
 pub fn first_cells(cells: &[f32]) -> [Cell; TPS_CARRIER_COUNT]
     requires { tps_size mode2k ≤ length cells.now }
     ensures { result ≡ first_cells mode2k.tps_count cells.now }

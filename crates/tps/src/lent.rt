@@ -9,7 +9,7 @@ use carriers::{TPS_CARRIER_COUNT, TPS_FLOATS};
 use ground::Refusal;
 
 // The sum of the carriers' products with the previous symbol's, in order from +0.0, each operation rounded once.
-// By place, because a fold over pairs of cells, which have to be copied out first, misses the speed of feeding in place.
+// By place, because a fold over pairs of cells, which are copied out first, misses the speed of feeding in place.
 fn correlate(cells: &[f32], prev: &[f32; TPS_FLOATS]) -> f32
     requires { tps_size mode2k ≤ length cells.now }
     ensures { result ≡ correlation mode2k.tps_count

@@ -1,5 +1,6 @@
 -- Document 01, 'Transport packets': a packet is 188 bytes, 0x47 and then 187 of payload.
-use Rattle.std.specs.Prelude.{not, List, [], ◌∷◌, ◌++◌, ℕ, ◌+◌, ◌-◌, ◌*◌, ◌/◌, ◌%◌, max, eqb, length, Option, Result}
+use Rattle.std.specs.Prelude.{List, [], ◌∷◌, ◌++◌, ℕ, ◌+◌, ◌-◌, ◌*◌, ◌/◌, ◌%◌}
+use Rattle.std.specs.Prelude.{not, max, eqb, length, Option, Result}
 use Rattle.std.specs.Prelude.{drop, replicate}
 use Rattle.ground.specs.Answer.{counted, kept, written, short, fill_no}
 use Rattle.ground.specs.Chunks.{chunks}
