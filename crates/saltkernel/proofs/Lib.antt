@@ -1,4 +1,3 @@
-pub mod Numbers
 pub mod WordCodes
 pub mod Determined
 pub mod Runs
