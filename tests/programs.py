@@ -3,7 +3,8 @@
 In crates/NAME/wrong-programs.txt a wrong program is a line `NAME of FUNCTION: what it does wrong`, or
 `NAME of FUNCTION in OTHER: ..` where it changes another function of the crate, and pairs of lines: behind `- ` a text
 that stands once in the body of the changed function, and behind `+ ` what stands there instead. Those that document 01
-names are must-fail edits of the toolchain (crates/NAME/must-fail/NAME.edit), with a `#` for the name in the first line."""
+names are must-fail edits of the toolchain (crates/NAME/must-fail/NAME.edit), with a `#` for the name in the first line;
+one that changes a definition, in specs/, is the toolchain's alone."""
 import dataclasses
 import re
 
@@ -59,7 +60,8 @@ def programs(crate):
     """The wrong programs of a crate."""
     folder, known = root / "crates" / crate, functions(crate)
     texts = {one.file: (folder / one.file).read_text() for one in known}
-    edits = [read(crate, known, texts, path.read_text(), path.stem) for path in sorted(folder.glob("must-fail/*.edit"))]
+    laid = {path: path.read_text() for path in sorted(folder.glob("must-fail/*.edit"))}
+    edits = [read(crate, known, texts, text, path.stem) for path, text in laid.items() if "file: specs/" not in text]
     listed = folder / "wrong-programs.txt"
     blocks = re.split(r"\n{2,}", listed.read_text().strip() if listed.is_file() else "")[1:]
     return edits + [read(crate, known, texts, block) for block in blocks]

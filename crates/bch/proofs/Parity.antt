@@ -2,27 +2,22 @@
 -- high part falls down by shifts and sums. Both sides take sums to sums, and agree, computed, at each of the 53
 -- digits. Assumes nothing.
 use mathlib.Core.Path.{◌≡◌, refl, sym, ap, ap₂, ◌∙◌, subst}
-use mathlib.Core.Bool.{Bool, true, false, true≢false}
 use mathlib.Core.List.{List, [], ◌∷◌, ◌++◌}
 use Prim.Native.Nat.{ℕ, zero, suc, ◌+◌, ◌*◌, ◌/◌, ◌%◌, ◌^◌, ◌<◌, ◌≤◌}
 use native.Mathlib.Nat.{mod-eq_of_lt, mul-le-mul_left}
 use native.Mathlib.Numerals.{add-one}
 use native.Mathlib.Omega.{arith}
-use lib.Bits.{bit_xor, xor_shr, xor_mod}
-use lib.Dec.{T, ltb}
-use lib.ListN.{length, replicate, drop, get_or}
+use lib.Bits.{bit_xor, xor_shr, xor_mod, xor_zero_r}
+use lib.Dec.{T}
+use lib.ListN.{length, replicate}
 use lib.Pow.{pow_mono}
-use lib.Seq.{drop-cons}
-use borrow.Author.Tests.{ltb-true}
-use Rattle.std.specs.List.{list_all}
-use Rattle.std.proofs.lemmas.List.Folds.{list_all_at}
 use Rattle.ground.specs.Bits.{Bits}
 use Rattle.ground.specs.Digits.{value_of, digits_of}
 use Rattle.ground.proofs.Bits.{zeros-bits}
 use Rattle.ground.proofs.Digits.{number-below, digits_number}
 use Rattle.ground.proofs.Tests.{below}
-use Rattle.ground.proofs.Xor.{odd}
-use Rattle.bch.specs.Polynomial.{division_step, joined, folded}
+use Rattle.ground.proofs.Xor.{odd, bit_cases}
+use Rattle.bch.specs.Polynomial.{division_step, degrees_of, joined, folded}
 use Rattle.bch.specs.Code.{step, remainder_of, parity}
 use Rattle.bch.proofs.Xor.{xor-odd, xor_swap, xor-shift}
 use Rattle.bch.proofs.Linear.{Sums, sums_after, agree, linear-below}
@@ -47,25 +42,31 @@ folded-xor : (js : List ℕ) (l m h k : ℕ) → folded js (bit_xor l m) (bit_xo
 folded-xor js l m h k =
     ap (λ (x : ℕ). joined x js (bit_xor h k)) (xor_swap l m h k) ∙ joined-xor js (bit_xor l h) (bit_xor m k) h k
 
--- a loop over the degrees: the term of the next one goes into the sum
-small_degree : (js : List ℕ) (i : ℕ) → i < length js → list_all (λ j. ltb j 14) js ≡ true → get_or js i 0 < 14
-small_degree js i h t = by (ltb (get_or js i 0) 14) refl
-  where
-    by : (b : Bool) → ltb (get_or js i 0) 14 ≡ b → get_or js i 0 < 14
-    by true e = ltb-true (get_or js i 0) 14 e
-    by false e = absurd (true≢false (sym t ∙ list_all_at (λ j. ltb j 14) js i 0 h e))
+-- a loop over the degrees: the next one's term goes into the sum as often as its digit says
+joined-more : (js ks : List ℕ) (low h : ℕ) → joined low (js ++ ks) h ≡ joined (joined low js h) ks h
+joined-more [] ks low h = refl
+joined-more (j ∷ js) ks low h = joined-more js ks (bit_xor low (h * 2 ^ j)) h
 
-term_fits : (h j : ℕ) → h < 2 ^ 50 → j < 14 → h * 2 ^ j % 2 ^ 64 ≡ h * 2 ^ j
-term_fits h j l m =
-    let p : 2 ^ j ≤ 2 ^ 14 = pow_mono {i = j} {j = 14} (omega arith) in
-    let q : h * 2 ^ j ≤ h * 2 ^ 14 = mul-le-mul_left h p in
+joined_digit : (d n sum h : ℕ) → d < 2 → bit_xor sum (d * (h * 2 ^ n)) ≡ joined sum (replicate d n) h
+joined_digit d n sum h =
+    bit_cases (λ (x : ℕ). bit_xor sum (x * (h * 2 ^ n)) ≡ joined sum (replicate x n) h)
+    (let e : 0 * (h * 2 ^ n) ≡ 0 = omega arith in ap (bit_xor sum) e ∙ xor_zero_r sum)
+    (let e : 1 * (h * 2 ^ n) ≡ h * 2 ^ n = omega arith in ap (bit_xor sum) e) d
+
+term_fits : (h n : ℕ) → h < 2 ^ 50 → n < 14 → h * 2 ^ n % 2 ^ 64 ≡ h * 2 ^ n
+term_fits h n l m =
+    let p : 2 ^ n ≤ 2 ^ 14 = pow_mono {i = n} {j = 14} (omega arith) in
+    let q : h * 2 ^ n ≤ h * 2 ^ 14 = mul-le-mul_left h p in
     mod-eq_of_lt (omega arith)
 
-pub joined-next : (js : List ℕ) (sum h i : ℕ) → i < length js → h < 2 ^ 50 → list_all (λ j. ltb j 14) js ≡ true
-    → joined (bit_xor sum (h * 2 ^ get_or js i 0 % 2 ^ 64)) (drop (i + 1) js) h ≡ joined sum (drop i js) h
-joined-next js sum h i l m t =
-    ap₂ (λ (x n : ℕ). joined (bit_xor sum x) (drop n js) h) (term_fits h (get_or js i 0) m (small_degree js i l t)) (add-one i)
-    ∙ ap (λ (ks : List ℕ). joined sum ks h) (sym (drop-cons js i 0 l))
+pub folded-next : (terms low h sum n : ℕ) → h < 2 ^ 50 → n < 14 → sum ≡ folded (degrees_of n terms) low h
+    → bit_xor sum (terms / 2 ^ n % 2 * (h * 2 ^ n % 2 ^ 64)) ≡ folded (degrees_of (n + 1) terms) low h
+folded-next terms low h sum n l m e =
+    let d : ℕ = terms / 2 ^ n % 2 in
+    ap₂ (λ (s x : ℕ). bit_xor s (d * x)) e (term_fits h n l m)
+    ∙ joined_digit d n (folded (degrees_of n terms) low h) h (odd (terms / 2 ^ n))
+    ∙ sym (joined-more (degrees_of n terms) (replicate d n) (bit_xor low h) h)
+    ∙ ap (λ (k : ℕ). folded (degrees_of k terms) low h) (sym (add-one n))
 
 -- ---- the folds
 

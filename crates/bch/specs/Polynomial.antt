@@ -1,7 +1,7 @@
 -- Document 01, 'TPS'; EN 300 744, 4.6.2.11: polynomials over GF(2), of which the code and the field are made, and
 -- their division. A polynomial is a number, whose binary digit k is the coefficient of x^k, or a list of bits,
 -- highest degree first. The sum is XOR.
-use Rattle.std.specs.Prelude.{List, [], ◌∷◌, ℕ, ◌+◌, ◌*◌, ◌/◌, ◌^◌}
+use Rattle.std.specs.Prelude.{List, [], ◌∷◌, ◌++◌, replicate, ℕ, zero, suc, ◌+◌, ◌*◌, ◌/◌, ◌%◌, ◌^◌}
 use Rattle.std.specs.Int.Bits.{bit_xor}
 
 -- the product of g and the polynomial of a list of bits, behind a product p: shifted, and added without carry
@@ -18,6 +18,11 @@ division_step n g r b = bit_xor (r * 2 + b) ((r * 2 + b) / 2 ^ n * g)
 abbrev pub remainder_by : ℕ → ℕ → ℕ → List ℕ → ℕ
 remainder_by n g r [] = r
 remainder_by n g r (b ∷ bs) = remainder_by n g (division_step n g r b) bs
+
+-- the degrees below n of a polynomial's terms, in rising order: each as often as its binary digit says
+abbrev pub degrees_of : ℕ → ℕ → List ℕ
+degrees_of zero v = []
+degrees_of (suc n) v = degrees_of n v ++ replicate (v / 2 ^ n % 2) n
 
 -- a polynomial with its high part h folded down: low + h + h x^j + .. over the j of a list
 abbrev pub joined : ℕ → List ℕ → ℕ → ℕ

@@ -98,8 +98,11 @@ fn roots(s1: Element, s3: Element) -> Option<Found>
     if c == Element::ZERO {
         return Some(Found::One(66 - one.degree));
     }
-    let other = next_root(one.on(1), c)?;
-    Some(Found::Two(66 - other.degree, 66 - one.degree))
+    // No `?` here, because what is answered without a second root stands nowhere then.
+    match next_root(one.on(1), c) {
+        Some(other) => Some(Found::Two(66 - other.degree, 66 - one.degree)),
+        None => None,
+    }
 }
 
 // The places whose change takes the remainder away, by its syndromes S1 and S3, where at most two do.

@@ -1,14 +1,14 @@
 -- Each refusal of a call over any desk, exactly when, and what is gathered behind it; a desk made by hand. Assumes
 -- nothing.
-use mathlib.Core.Path.{◌≡◌}
+use mathlib.Core.Path.{◌≡◌, refl}
 use mathlib.Core.Logic.{◌↔◌}
 use mathlib.Core.Bool.{true}
 use mathlib.Core.List.{List}
 use Prim.Native.Nat.{ℕ, ◌<◌}
 use native.Mathlib.Omega.{arith}
-use Rattle.std.specs.Prelude.{Option, Some, Ok}
+use Rattle.std.specs.Prelude.{Option, Some, None, Ok, Err}
 use Rattle.ground.specs.declared.Refusal.{Refusal}
-use Rattle.ground.specs.Refusal.{ACCEPTED, OUT_OF_STEP, MISMATCH, code_of}
+use Rattle.ground.specs.Refusal.{ACCEPTED, OUT_OF_STEP, MISMATCH, code, code_of}
 use Rattle.ground.specs.Answer.{number_of, answer_by, kept}
 use Rattle.tps.specs.declared.word.TpsWord.{TpsWord}
 use Rattle.desk.specs.declared.Desk.{Desk}
@@ -75,6 +75,12 @@ code-told a b e = grind arith
 
 abbrev Says : Type 0
 Says = ℕ × List (List SuperFrame)
+
+-- the number that an answer says is that of its refusal, by which the refusals above are told
+pub answer-number-is : (a : Answer) → (answer_says a).0 ≡ code (number_of a)
+answer-number-is (Ok None) = refl
+answer-number-is (Ok (Some s)) = refl
+answer-number-is (Err r) = refl
 
 pub answer_faithful : (a b : Answer) → answer_says a ≡ answer_says b → a ≡ b
 answer_faithful a b e = grind (arith, code-told)

@@ -111,7 +111,7 @@ impl DvbTEnergyDispersal {
             };
         }
         let front = &mut out[..n];
-        front.copy_from_slice(bytes);
+        ground::inner::copy(bytes, front);
         Fed {
             whitener: self.feed_in_place(front),
             answer: Ok(n),

@@ -256,6 +256,7 @@ fn soft_value(order: ConstellationOrder, place: usize, x: f32) -> f32
 }
 
 // The soft values of a received cell, in the order of the bits.
+#[tactic(auto, unfolding(crate::specs::Soft::soft))]
 pub fn dvb_t_soft_llr(sym: Cell, v: usize) -> Result<Soft, Refusal>
     ensures { result ≡ soft_answer sym v }
 {

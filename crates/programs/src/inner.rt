@@ -1,5 +1,6 @@
 // For the programs: what each says of a read or a write that failed, and how one writes a report on its input.
 ghost use Rattle.std.specs.Prelude.{◌≡◌, ◌≤◌, length, IfOk};
+ghost use Rattle.programs.specs.declared.inner.Stop.TheVariants.{Refused};
 
 use ground::Refusal;
 use std::env::{Env, FillError};
@@ -18,6 +19,8 @@ pub enum Stop {
 }
 
 impl From<Refusal> for Stop {
+    ghost from_gives = { λ refusal stop. stop ≡ Refused refusal };
+
     fn from(refusal: Refusal) -> Stop {
         Stop::Refused(refusal)
     }
@@ -79,7 +82,9 @@ pub fn fill(rt: &HostRuntime, input: &mut [u8]) -> io::Result<usize>
 }
 
 // Writes the bytes that a call left at the front of its output.
-pub fn write_front(rt: &HostRuntime, count: usize, out: &[u8]) -> Result<(), Stop> {
+pub fn write_front(rt: &HostRuntime, count: usize, out: &[u8]) -> Result<(), Stop>
+    ensures { IfOk result (λ done. count ≤ length out.now) }
+{
     let Some(front) = out.get(..count) else {
         return Err(Stop::Unwritten(io::Error::other("no room for the output")));
     };

@@ -3,7 +3,7 @@
 ghost use Rattle.std.specs.Prelude.{◌≡◌, ℕ, ◌+◌, ◌<◌, ◌≤◌, ◌∷◌, length};
 ghost use Rattle.report.specs.Characters.{space};
 ghost use Rattle.report.specs.Text.{decimal, hexadecimal, cell_text, points_text, rate_text, guard_text, line_text};
-ghost use Rattle.report.specs.OpenLine.{open_answer, grown, last_answers};
+ghost use Rattle.report.specs.OpenLine.{open_line, open_answer, grown, last_answers};
 ghost use Rattle.report.specs.Telling.{Teller, rest_text};
 ghost use Rattle.report.specs.Calls.{line_room, part_room};
 ghost use Rattle.report.specs.Inner.{Begun, Room, Puts, columns_text, EndsBy, PartTold};
@@ -182,6 +182,20 @@ pub trait Tells {
         ensures room { text.new.len ≤ text.old.len + closing_room };
 }
 
+// Takes a character more of a line into what is held of it, where there is room, and counts it. The count is a number
+// of its own here, since beside an array that is written by place it stays in memory, and a long line takes twice as
+// long.
+#[tactic(auto, unfolding(crate::specs::OpenLine::grown))]
+fn hold(held: &mut [u8; 17], count: usize, character: u8) -> usize
+    ensures { open_line held.new result ≡ grown (open_line held.old count) character }
+{
+    if count < 17 {
+        held[count] = character;
+        return count + 1;
+    }
+    18
+}
+
 // Takes a part of the input, and writes the texts of the lines that end in it; the line that is open behind it.
 pub fn put_part<K: Tells>(
     decoder: Decoder,
@@ -193,16 +207,17 @@ pub fn put_part<K: Tells>(
     requires { Room text.old (part_room part.now) }
     ensures { PartTold K.teller line kept.old part.now text.old result kept.new text.new }
 {
-    let mut line = line;
+    let mut held = line.held;
+    let mut count = line.count;
     for character in part {
         if *character == b'\n' {
-            kept.tell(line.answer_by(decoder), text);
-            line.count = 0;
+            kept.tell(OpenLine { held, count }.answer_by(decoder), text);
+            count = 0;
         } else {
-            line.push(*character);
+            count = hold(&mut held, count, *character);
         }
     }
-    line
+    OpenLine { held, count }
 }
 
 // Ends the input: writes the text of a line that is open there, and the closing text.
@@ -218,20 +233,6 @@ pub fn put_close<K: Tells>(decoder: Decoder, line: OpenLine, kept: &mut K, text:
 }
 
 impl OpenLine {
-    // Takes a character more, which is held where there is room.
-    #[tactic(auto, unfolding(crate::specs::OpenLine::grown))]
-    fn push(&mut self, character: u8)
-        ensures { self.new ≡ grown self.old character }
-    {
-        let count = self.count;
-        if count < 17 {
-            self.held[count] = character;
-            self.count = count + 1;
-        } else {
-            self.count = 18;
-        }
-    }
-
     // The answer to the line, where it ends here, by either decoder.
     #[tactic(auto, unfolding(crate::specs::OpenLine::open_answer))]
     pub fn answer_by(self, decoder: Decoder) -> Result<MendedWord, Refusal>

@@ -25,8 +25,17 @@ pub(super) fn point_numbers_of(answer: Result<Cell, Refusal>) -> SaltMapped
     ensures point { SaysPoint result answer }
     ensures boosted { SaysBoosted result answer }
 {
-    let (number, point) = number_and(answer, Cell { re: 0.0, im: 0.0 });
-    SaltMapped { number, point }
+    // Not by `number_and`, because the two parts would go through memory, and a boosted pilot take twice as long.
+    match answer {
+        Ok(Cell { re, im }) => SaltMapped {
+            number: 0,
+            point: Cell { re, im },
+        },
+        Err(refusal) => SaltMapped {
+            number: u8::from(refusal),
+            point: Cell { re: 0.0, im: 0.0 },
+        },
+    }
 }
 
 // The point of a group of 2, 4 or 6 bits (QPSK, 16-QAM, 64-QAM): even bits, high first, index the I axis, odd bits the

@@ -70,14 +70,23 @@ pub(crate) fn cells_before(n: usize, frame: &[f32]) -> [Cell; TPS_CARRIER_COUNT]
     tps::inner::first_cells(&frame[from..])
 }
 
-// The TPS decoder after the 68 places of a frame's part of the journal.
+// The TPS decoder after the 68 places of a frame's part of the journal, fed where it stands, which is quicker than by
+// value. Not inlined, because a step back within a frame would pay for its room.
+#[inline(never)]
 pub(crate) fn replay(frame: &[f32]) -> TpsDecoder
     requires { SYMBOLS * place mode2k ≤ length frame.now }
     ensures { result ≡ decoder_on mode2k (places_in mode2k SYMBOLS frame.now) }
 {
-    let mut decoder = TpsDecoder::new();
+    let mut prev = [0.0f32; TPS_FLOATS];
+    let mut bits = [0u8; TPS_SYMBOLS_PER_FRAME];
+    let mut count = 0;
     for cells in frame.chunks_exact(TPS_FLOATS).take(TPS_SYMBOLS_PER_FRAME) {
-        decoder = decoder.feed_symbol(cells).decoder;
+        // A place is as long as a symbol's cells and a frame has 68, so no feed is refused.
+        let _ = tps::lent::feed_symbol(&mut prev, &mut bits, &mut count, cells);
     }
-    decoder
+    TpsDecoder {
+        prev: tps::inner::first_cells(&prev),
+        bits,
+        count,
+    }
 }

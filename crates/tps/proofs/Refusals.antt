@@ -1,12 +1,14 @@
 -- The refusals of sending, of receiving and of packing, said without the call: it is refused by a number exactly where
 -- this is so. Assumes nothing.
-use mathlib.Core.Path.{◌≡◌}
+use mathlib.Core.Path.{◌≡◌, refl, ◌∙◌}
 use mathlib.Core.Logic.{◌↔◌}
 use mathlib.Core.List.{List, [], ◌∷◌}
 use Prim.Native.Nat.{ℕ, ◌<◌, ◌≤◌}
 use lib.Dec.{leb}
 use lib.Ieee.{Float}
 use lib.ListN.{length}
+use Rattle.std.specs.Prelude.{Result, Ok, Err}
+use Rattle.ground.specs.declared.Refusal.{Refusal}
 use Rattle.ground.specs.Refusal.{LENGTH, NOT_A_BIT, OUTPUT_SHORT, FULL, Test, ◌gives◌}
 use Rattle.ground.specs.Answer.{number_of, short}
 use Rattle.ground.proofs.Answers.{answer-says-number, counted-says-number}
@@ -35,17 +37,22 @@ module _ (m : Mode) (e : TpsEncoder) (bit : ℕ) (o : List Float) where
 
 -- ---- receiving
 
+-- the number that an answer says is its refusal
+pub bit-number-is : (a : Result ℕ Refusal) → bit_number a ≡ number_of a
+bit-number-is (Ok b) = refl
+bit-number-is (Err k) = refl
+
 module _ (m : Mode) (d : TpsDecoder) (s : List Float) where
   abbrev full : List Test
   full = leb SYMBOLS d.count gives FULL ∷ []
 
   pub feeding_length : (bit_number (feed_answer m d s).answer ≡ LENGTH) ↔ (length s < tps_size m)
   feeding_length =
-      said_exactly (answer-says-number (feed_no m d s) (fed_bit m d s)) (given-here LENGTH full (less_decides (length s) (tps_size m)) tt)
+      said_exactly (bit-number-is (feed_answer m d s).answer ∙ answer-says-number (feed_no m d s) (fed_bit m d s)) (given-here LENGTH full (less_decides (length s) (tps_size m)) tt)
 
   pub feeding_full : (bit_number (feed_answer m d s).answer ≡ FULL) ↔ ((tps_size m ≤ length s) × (SYMBOLS ≤ d.count))
   feeding_full =
-      said_exactly (answer-says-number (feed_no m d s) (fed_bit m d s))
+      said_exactly (bit-number-is (feed_answer m d s).answer ∙ answer-says-number (feed_no m d s) (fed_bit m d s))
       (given-behind LENGTH FULL full (less_decides (length s) (tps_size m)) tt (λ l. given-here FULL [] (at_most_decides SYMBOLS d.count) tt))
 
 pub bits-output-short : (d : TpsDecoder) (o : List ℕ) → (number_of (bits_answer d o) ≡ OUTPUT_SHORT) ↔ (length o < standing d)

@@ -5,7 +5,6 @@ use Rattle.std.specs.Prelude.{Option, None, Some, Result, Ok, Err}
 use Rattle.ground.specs.declared.Refusal.{Refusal}
 use Rattle.ground.specs.declared.Refusal.TheVariants.{NoWord}
 use Rattle.ground.specs.Refusal.{ACCEPTED, LENGTH, NOT_A_BIT, NO_WORD, ◌gives◌, first_of}
-use Rattle.ground.specs.Answer as ground
 use Rattle.ground.specs.Answer.{answer_by, kept, fill_no, fill_answer, fill_leaves}
 use Rattle.ground.specs.Bits.{are_bits}
 use Rattle.bch.specs.Code.{Codeword, places, distance, Lone}
@@ -43,7 +42,7 @@ unpacked_says (Ok u) = (ACCEPTED, (u.word, u.mended) ∷ [])
 unpacked_says (Err refusal) = (Some refusal, [])
 
 abbrev pub number_of : Unpacked → Option Refusal
-number_of a = ground.number_of a
+number_of a = (unpacked_says a).0
 
 -- the refusal of a call by its length and its items, s0 among them
 abbrev pub unpack_no : List ℕ → Option Refusal

@@ -7,8 +7,7 @@ use Rattle.std.specs.Float.{nan, binary32}
 use Rattle.std.specs.Float.Ieee.{add, sub, mul, neg, lt}
 use Rattle.ground.specs.declared.Refusal.{Refusal}
 use Rattle.ground.specs.Refusal.{ACCEPTED, LENGTH, FULL, INCOMPLETE, ◌gives◌, first_of}
-use Rattle.ground.specs.Answer as ground
-use Rattle.ground.specs.Answer.{answer_by, value_or, kept, short, fill_no, fill_answer, fill_leaves}
+use Rattle.ground.specs.Answer.{answer_by, kept, short, fill_no, fill_answer, fill_leaves}
 use Rattle.ground.specs.declared.Cell.{Cell}
 use Rattle.ground.specs.Cells.{cell_at, plus_zero, zero_cell}
 use Rattle.carriers.specs.Mode.{Mode, tps_size}
@@ -43,10 +42,10 @@ bit_says (Err refusal) = (Some refusal, [])
 
 -- the refusal, and the bit, 0 where there is none
 abbrev pub bit_number : Result ℕ Refusal → Option Refusal
-bit_number a = ground.number_of a
+bit_number a = (bit_says a).0
 
 abbrev pub bit_in : Result ℕ Refusal → ℕ
-bit_in a = value_or 0 a
+bit_in a = get_or (bit_says a).1 0 0
 
 -- the answer of a call by its refusal: the bit where there is none
 abbrev pub bit_answer : Option Refusal → ℕ → Result ℕ Refusal

@@ -66,7 +66,7 @@ pub fn ts_depacketize(packets: &[u8], out: &mut [u8]) -> Result<usize, Refusal>
         let to = from + TS_PAYLOAD_LEN;
         let base = TS_PAYLOAD_LEN * i;
         let end = base + TS_PAYLOAD_LEN;
-        out[base..end].copy_from_slice(&packets[from..to]);
+        ground::inner::copy(&packets[from..to], &mut out[base..end]);
     }
     Ok(TS_PAYLOAD_LEN * n)
 }

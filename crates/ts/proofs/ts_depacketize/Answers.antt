@@ -14,11 +14,11 @@ pub loop-i-preserved : goal.loop-i-preserved
 loop-i-preserved c =
     let l = c.loop-i in
     let a = c.args in
-    let d = c.copy_from_slice in
+    let d = c.copy in
     let s = a.packets.now in
     let n : ℕ = length s / 188 in
-    chunks-next (λ (j : ℕ) (p : List ℕ). drop 1 p) 188 187 n l.i _ s a.out.now l.out d.new.self (payloads_each n s (omega arith)) c.loop-i-test.true (omega arith) l.invariant
-    (d.ensures.after ∙ lent_payload s l.i _ (omega arith))
+    chunks-next (λ (j : ℕ) (p : List ℕ). drop 1 p) 188 187 n l.i _ s a.out.now l.out d.new.to (payloads_each n s (omega arith)) c.loop-i-test.true (omega arith) l.invariant
+    (d.ensures ∙ lent_payload s l.i _ (omega arith))
 
 pub returns-clause-output : goal.returns-clause-output
 returns-clause-output c =

@@ -21,22 +21,21 @@ returns-then-eq c =
     let h = syndromes_worked g c.mul-square.ensures c.mul.ensures c.add-c.ensures in
     one_root_located h c.mul-square.ensures c.in_ok-one.ensures (eqb-true c.add-c.result.digits 0 (sym c.eq.ensures ∙ c.if-eq.true))
 
-pub returns-in_err-other : goal.returns-in_err-other
-returns-in_err-other c =
+pub returns-in-None : goal.returns-in-None
+returns-in-None c =
     λ s c' g.
     let h = syndromes_worked g c.mul-square.ensures c.mul.ensures c.add-c.ensures in
     let o = c.on.ensures in
     let k = c.add-c.result.digits in
     let n : NoRoot k c.on.result.p.digits c.on.result.q.digits (c.in_ok-one.one.degree + 1) =
-    subst (λ (d : ℕ). NoRoot k c.on.result.p.digits c.on.result.q.digits d) o.degree c.in_err-other.ensures in
-    subst (λ (f : Option Found). Locates s f) (sym c.from_residual-in_err-other.ensures)
-    (lone_root_no_pattern h c.mul-square.ensures c.in_ok-one.ensures o.first o.second n (eqb-false k 0 (sym c.eq.ensures ∙ c.if-eq.false)))
+    subst (λ (d : ℕ). NoRoot k c.on.result.p.digits c.on.result.q.digits d) o.degree c.in-None.ensures in
+    lone_root_no_pattern h c.mul-square.ensures c.in_ok-one.ensures o.first o.second n (eqb-false k 0 (sym c.eq.ensures ∙ c.if-eq.false))
 
-pub returns : goal.returns
-returns c =
+pub returns-in-Some : goal.returns-in-Some
+returns-in-Some c =
     λ s c' g.
     let h = syndromes_worked g c.mul-square.ensures c.mul.ensures c.add-c.ensures in
     let o = c.on.ensures in
-    let t = c.in_ok-other.other in
+    let t = c.in-Some.other in
     two_roots_located h c.mul-square.ensures c.in_ok-one.ensures o.first o.second
-    (subst (λ (d : ℕ). NextRoot c.add-c.result.digits c.on.result.p.digits c.on.result.q.digits d t.p.digits t.q.digits t.degree) o.degree c.in_ok-other.ensures)
+    (subst (λ (d : ℕ). NextRoot c.add-c.result.digits c.on.result.p.digits c.on.result.q.digits d t.p.digits t.q.digits t.degree) o.degree c.in-Some.ensures)

@@ -9,6 +9,6 @@ loop-character-preserved g c =
     let t = g.K.Tells.teller in
     let l = c.loop-character in
     elim c.if-character-eq10.branch [
-      | then-character-eq10 w ↦ rw (w.text-is, w.line-is, w.kept-is) (reached_ended t l.invariant c.loop-character-test.true w.if-character-eq10.true (rw w.answer_by.ensures at w.tell.ensures))
-      | else-character-eq10 w ↦ rw (w.text-is, w.line-is, w.kept-is, w.push.ensures) (reached_open t l.invariant c.loop-character-test.true w.if-character-eq10.false)
+      | then-character-eq10 w ↦ rw (w.text-is, w.held-is, w.count-is, w.kept-is) (reached_ended t l.invariant c.loop-character-test.true w.if-character-eq10.true (rw w.answer_by.ensures at w.tell.ensures))
+      | else-character-eq10 w ↦ rw (w.text-is, w.held-is, w.count-is, w.kept-is, w.hold-count.ensures) (reached_open t l.invariant c.loop-character-test.true w.if-character-eq10.false)
     ]

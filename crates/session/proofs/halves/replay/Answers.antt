@@ -1,18 +1,21 @@
 -- `session::halves::replay` meets its contract: after n chunks the TPS decoder was fed the first n places, and what is left begins behind these.
 -- Assumes nothing.
-use mathlib.Core.Path.{◌≡◌, ◌∙◌}
+use mathlib.Core.Path.{◌≡◌, ◌∙◌, refl}
 use mathlib.Core.List.{◌∷◌, [], ◌++◌}
 use Prim.Native.Nat.{suc}
 use lib.ListN.{length, length-append}
 use Rattle.std.proofs.Common.{rules, arith}
 use Rattle.carriers.specs.Mode.{mode2k}
+use lib.Ieee.{of_bits}
+use Rattle.ground.specs.Cells.{plus_zero}
+use Rattle.tps.specs.Receive.{first_cells}
 use Rattle.session.specs.Journal.{places_in, decoder_on}
 use Rattle.session.proofs.Decoder.{replay_turn}
 use Rattle.session.proofs.halves.replay.Goals as goal
 
 pub loop-cells-init : goal.loop-cells-init
-unfolding decoder_on places_in
-loop-cells-init c = record { size = search rules; rest = search rules; fed = c.new-decoder.ensures }
+unfolding decoder_on places_in first_cells plus_zero of_bits
+loop-cells-init c = record { size = search rules; rest = search rules; fed = refl }
 
 pub loop-cells-preserved : goal.loop-cells-preserved
 loop-cells-preserved c =
